@@ -1,0 +1,6 @@
+//! Tables of words and of operators.
+#![tactic(auto)]
+
+pub mod operators;
+
+pub use operators::{Mix, Op};

@@ -1,0 +1,10 @@
+//! Words, lists, texts, and the faults that a description can have.
+#![tactic(auto)]
+
+pub mod faults;
+pub mod lists;
+pub mod texts;
+
+pub use faults::{Fault, Kind, LimitKind, Refusal, fault_line};
+pub use lists::{List, NoMemory, Word};
+pub use texts::Text;
