@@ -1,0 +1,4 @@
+pub mod Cases
+pub mod Frames
+pub mod Settle
+pub mod Views

@@ -1,0 +1,7 @@
+pub mod Circuit
+pub mod Reads
+pub mod Settling
+pub mod Shapes
+pub mod Statements
+pub mod Terms
+pub mod Values

@@ -1,0 +1,14 @@
+//! The laws of settling and of views, over all circuits.
+
+ghost use Rattle.lx_circuit.specs.Settling.{IsSettlingLaw, IsViewLaw};
+
+/// A circuit in which an order of reads exists has exactly one settled valuation, under each state and
+/// all inputs.
+pub fn settling_law()
+    ensures { IsSettlingLaw }
+{}
+
+/// A circuit in which an order of reads exists has exactly one view after every list of steps.
+pub fn view_law()
+    ensures { IsViewLaw }
+{}
