@@ -1,0 +1,4 @@
+pub mod Cycle
+pub mod Meaning
+pub mod Runs
+pub mod Settling
