@@ -1,5 +1,5 @@
 -- Bitwise operators on whole numbers, in two's complement without end.
-use Rattle.std.specs.Prelude.{ℕ, ℤ, pos, negsuc, ◌-◌, bit_and, bit_or, bit_xor}
+use Rattle.std.specs.Prelude.{ℤ, pos, negsuc, ◌-◌, bit_and, bit_or, bit_xor}
 
 abbrev pub int_not : ℤ → ℤ
 int_not (pos a) = negsuc a

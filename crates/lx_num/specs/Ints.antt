@@ -1,5 +1,5 @@
 -- Whole numbers, the patterns of bits that stand for them, and the ranges of shapes.
-use Rattle.std.specs.Prelude.{◌≡◌, ℕ, ℤ, pos, negsuc, Bool, true, false, ◌+◌, ◌-◌, ◌*◌, ◌/◌, ◌%◌, ◌^◌, ◌≤◌, ◌<◌, ◌≤ℤ◌, ◌<ℤ◌, ◌-ℤ◌, cond, nat_le}
+use Rattle.std.specs.Prelude.{ℕ, ℤ, pos, negsuc, Bool, true, false, ◌-◌, ◌/◌, ◌%◌, ◌^◌, ◌≤ℤ◌, ◌<ℤ◌, ◌-ℤ◌, cond, nat_le}
 use Rattle.std.proofs.Common.{neg_ℤ}
 use Rattle.lx_num.specs.declared.Shape.{Shape}
 

@@ -1,2 +1,5 @@
 pub mod Bits
+pub mod Fewest
+pub mod Fields
 pub mod Ints
+pub mod Laws
