@@ -3,4 +3,4 @@
 
 pub mod operators;
 
-pub use operators::{Mix, Op};
+pub use operators::{Mix, Op, OpRow, OpText, op_row};
