@@ -69,8 +69,8 @@ same_power (negsuc (suc a)) k e p q h =
 shortened : (a : ℤ) (e k : ℕ) → k ≡ (if nat_lt e 128 then e else 128 + e % 2) → ranged (int_pow a k) ≡ ranged (int_pow a e)
 shortened a e k h =
     elim (cases_lt e 128) [
-      inl p ↦ ap (λ (n : ℕ). ranged (int_pow a n)) (grind (arith, nat_tests))
-    | inr p ↦ let i : k ≡ 128 + e % 2 = grind (arith, nat_tests) in same_power a k e (omega arith) (omega arith) (omega arith)
+      | inl p ↦ ap (λ (n : ℕ). ranged (int_pow a n)) (grind (arith, nat_tests))
+      | inr p ↦ let i : k ≡ 128 + e % 2 = grind (arith, nat_tests) in same_power a k e (omega arith) (omega arith) (omega arith)
     ]
 
 -- ---- numbers of 128 bits as the code holds them
@@ -101,8 +101,8 @@ far_floor (negsuc a) n h p =
 short_floor : (a : ℤ) (n k : ℕ) → unsigned_abs a < 2 ^ 127 → k ≡ min n 127 → floor_div a (2 ^ k) ≡ floor_div a (2 ^ n)
 short_floor a n k h e =
     elim (cases_lt n 127) [
-      inl p ↦ ap (λ (j : ℕ). floor_div a (2 ^ j)) (omega arith)
-    | inr p ↦ ap (λ (j : ℕ). floor_div a (2 ^ j)) (let d : k ≡ 127 = omega arith in d) ∙ far_floor a n h p
+      | inl p ↦ ap (λ (j : ℕ). floor_div a (2 ^ j)) (omega arith)
+      | inr p ↦ ap (λ (j : ℕ). floor_div a (2 ^ j)) (let d : k ≡ 127 = omega arith in d) ∙ far_floor a n h p
     ]
 
 shr_is : (a : ℤ) (m : ℕ) → shr_z a m ≡ floor_div a m

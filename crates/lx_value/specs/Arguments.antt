@@ -1,6 +1,6 @@
 -- Which argument each parameter of a call gets.
-use Rattle.std.specs.Prelude.{◌≡◌, ℕ, ◌+◌, Bool, true, false, not, ◌&&◌, ◌||◌, List, [], ◌∷◌, map, count_by, position, Option, Some, None, Result, Ok, Err, nat_lt, nat_eq, if◌then◌else◌}
-use Rattle.std.specs.List.{list_any, enumerate_from}
+use Rattle.std.specs.Prelude.{◌≡◌, ℕ, ◌+◌, Bool, true, false, not, ◌&&◌, ◌||◌, List, [], ◌∷◌, map, count_by, position, drop, Option, Some, None, Result, Ok, Err, nat_lt, nat_eq, if◌then◌else◌}
+use Rattle.std.specs.List.{list_any, list_all, enumerate_from}
 use Rattle.std.specs.Str.{bytes_eq}
 use Rattle.lx_value.specs.declared.arguments.Param.{Param}
 use Rattle.lx_value.specs.declared.arguments.Bound.{Bound}
@@ -12,19 +12,17 @@ use Rattle.lx_value.specs.declared.arguments.BindFault.TheVariants.{WrongCount, 
 abbrev pub is_named : Param → List ℕ → Bool
 is_named p name = bytes_eq name p.name
 
--- the parameters that take a place come first
-abbrev pub are_places_first : List Param → Bool
-are_places_first [] = true
-are_places_first (p ∷ ps) = (p.by_place || not (list_any (λ q. q.by_place) ps)) && are_places_first ps
-
--- no two parameters have one name
-abbrev pub are_names_distinct : List Param → Bool
-are_names_distinct [] = true
-are_names_distinct (p ∷ ps) = not (list_any (λ q. is_named q p.name) ps) && are_names_distinct ps
-
 -- how many parameters take a place
 abbrev pub places : List Param → ℕ
 places params = count_by (λ p. p.by_place) params
+
+-- behind as many parameters none takes a place: those that take one come first
+abbrev pub are_places_first : List Param → Bool
+are_places_first params = list_all (λ p. not p.by_place) (drop (places params) params)
+
+-- each name is that of one parameter
+abbrev pub are_names_distinct : List Param → Bool
+are_names_distinct params = list_all (λ p. nat_eq (count_by (λ q. is_named q p.name) params) 1) params
 
 -- the key is the name of a parameter
 abbrev pub is_known : List Param → List ℕ → Bool
@@ -40,7 +38,7 @@ is_miscounted placed keys place p =
     nat_lt 1 (arguments placed keys place p) || (p.required && nat_eq (arguments placed keys place p) 0)
 
 -- too many arguments have no name, a name is no parameter's, or a parameter has a wrong number of arguments
-abbrev pub is_wrong_count : List Param → ℕ → List (List ℕ) → Bool
+unfoldable pub is_wrong_count : List Param → ℕ → List (List ℕ) → Bool
 is_wrong_count params placed keys =
     nat_lt (places params) placed
     || list_any (λ key. not (is_known params key)) keys

@@ -226,3 +226,177 @@ fn unequal_bits(a: i128, b: i128) -> Result<i128, NumFault>
 {
     in_range(a ^ b)
 }
+
+#[cfg(test)]
+mod tests {
+    use super::*;
+    use std::process::Abort;
+
+    const MOST: i128 = i128::MAX;
+
+    const RANGE: Result<i128, NumFault> = Err(NumFault::NumberRange);
+
+    const DIV_ZERO: Result<i128, NumFault> = Err(NumFault::DivZero);
+
+    fn check(rt: &impl Abort, op: PyOp, cases: &[(i128, i128, Result<i128, NumFault>)]) {
+        for (a, b, want) in cases {
+            let (a, b) = (*a, *b);
+            assert!(rt; a.unsigned_abs() < 1 << 127);
+            assert!(rt; b.unsigned_abs() < 1 << 127);
+            assert_eq!(rt; int_op(op, a, b), *want, "{op:?} of {a} and {b}");
+        }
+    }
+
+    #[test]
+    fn adds_and_multiplies(rt: HostRuntime) {
+        check(
+            &rt,
+            PyOp::Add,
+            &[
+                (2, 3, Ok(5)),
+                (MOST, -MOST, Ok(0)),
+                (MOST, 1, RANGE),
+                (-MOST, -1, RANGE),
+            ],
+        );
+        check(
+            &rt,
+            PyOp::Sub,
+            &[
+                (2, 3, Ok(-1)),
+                (0, MOST, Ok(-MOST)),
+                (-MOST, 1, RANGE),
+                (MOST, -1, RANGE),
+            ],
+        );
+        check(
+            &rt,
+            PyOp::Mul,
+            &[
+                (-4, 3, Ok(-12)),
+                (1 << 63, 1 << 63, Ok(1 << 126)),
+                (1 << 64, 1 << 63, RANGE),
+                (1 << 64, -(1 << 63), RANGE),
+            ],
+        );
+    }
+
+    #[test]
+    fn divides_downward(rt: HostRuntime) {
+        check(
+            &rt,
+            PyOp::FloorDiv,
+            &[
+                (-7, 2, Ok(-4)),
+                (7, -2, Ok(-4)),
+                (-7, -2, Ok(3)),
+                (6, -2, Ok(-3)),
+                (-MOST, -1, Ok(MOST)),
+                (-MOST, MOST - 1, Ok(-2)),
+                (7, 0, DIV_ZERO),
+                (0, 0, DIV_ZERO),
+            ],
+        );
+        check(
+            &rt,
+            PyOp::Mod,
+            &[
+                (-7, 2, Ok(1)),
+                (7, -2, Ok(-1)),
+                (-7, -2, Ok(-1)),
+                (6, -2, Ok(0)),
+                (-MOST, MOST - 1, Ok(MOST - 2)),
+                (1, -MOST, Ok(1 - MOST)),
+                (7, 0, DIV_ZERO),
+            ],
+        );
+    }
+
+    #[test]
+    fn raises_to_powers(rt: HostRuntime) {
+        check(
+            &rt,
+            PyOp::Pow,
+            &[
+                (2, 126, Ok(1 << 126)),
+                (2, 127, RANGE),
+                (-2, 126, Ok(1 << 126)),
+                (-2, 127, RANGE),
+                (-3, 3, Ok(-27)),
+                (3, 80, Ok(147808829414345923316083210206383297601)),
+                (3, 81, RANGE),
+                (-1, (1 << 126) + 1, Ok(-1)),
+                (-1, 1 << 126, Ok(1)),
+                (0, 0, Ok(1)),
+                (0, MOST, Ok(0)),
+                (1, MOST, Ok(1)),
+                (2, MOST, RANGE),
+                (-2, MOST, RANGE),
+                (2, -1, RANGE),
+                (0, -1, RANGE),
+            ],
+        );
+    }
+
+    #[test]
+    fn shifts(rt: HostRuntime) {
+        check(
+            &rt,
+            PyOp::Shl,
+            &[
+                (5, 3, Ok(40)),
+                (1, 126, Ok(1 << 126)),
+                (-1, 126, Ok(-(1 << 126))),
+                (1, 127, RANGE),
+                (-1, 127, RANGE),
+                (1, MOST, RANGE),
+                (0, MOST, Ok(0)),
+                (0, -1, RANGE),
+            ],
+        );
+        check(
+            &rt,
+            PyOp::Shr,
+            &[
+                (5, 1, Ok(2)),
+                (-5, 1, Ok(-3)),
+                (-1, 200, Ok(-1)),
+                (MOST, 126, Ok(1)),
+                (MOST, 127, Ok(0)),
+                (-MOST, 126, Ok(-2)),
+                (-MOST, MOST, Ok(-1)),
+                (1, -1, RANGE),
+            ],
+        );
+    }
+
+    #[test]
+    fn combines_bits(rt: HostRuntime) {
+        check(
+            &rt,
+            PyOp::And,
+            &[
+                (12, 10, Ok(8)),
+                (-6, 3, Ok(2)),
+                (-6, -3, Ok(-8)),
+                (-MOST, -2, RANGE),
+            ],
+        );
+        check(
+            &rt,
+            PyOp::Or,
+            &[(12, 10, Ok(14)), (-6, 3, Ok(-5)), (-6, -3, Ok(-1))],
+        );
+        check(
+            &rt,
+            PyOp::Xor,
+            &[
+                (12, 10, Ok(6)),
+                (-6, 3, Ok(-7)),
+                (5, -1, Ok(-6)),
+                (-6, -1, Ok(5)),
+                (MOST, -1, RANGE),
+            ],
+        );
+    }
+}
