@@ -1,0 +1,11 @@
+//! The leaves of elaboration: Python's whole numbers, the budget of work, and the binding of
+//! arguments.
+#![tactic(auto)]
+
+pub mod arguments;
+pub mod numbers;
+pub mod work;
+
+pub use arguments::{BindFault, Bound, Param, bind};
+pub use numbers::{NumFault, PyOp, int_op};
+pub use work::Budget;

@@ -1,0 +1,402 @@
+//! Whole numbers as Python computes them, from -(2^127 - 1) to 2^127 - 1.
+
+ghost use Rattle.std.specs.Prelude.{◌≡◌, ◌<◌, ◌^◌, ◌+◌, ◌%◌, ◌+ℤ◌, ◌-ℤ◌, ◌*ℤ◌, pos, nat_lt, if◌then◌else◌, MatchOption, IfOk, Ok, Err, ℤ, ℕ};
+ghost use Rattle.std.specs.Int.{int_pow};
+ghost use Rattle.lx_num.specs.Bits.{int_and, int_or, int_xor};
+ghost use Rattle.lx_value.specs.Numbers.{IsInteger, python_value, ranged, divided, counted, floor_quotient, floor_remainder, shifted_left, shifted_right};
+
+/// The operators that Python has on two whole numbers.
+#[derive(Clone, Copy, Debug)]
+pub enum PyOp {
+    Add,
+    Sub,
+    Mul,
+    FloorDiv,
+    Mod,
+    Pow,
+    Shl,
+    Shr,
+    And,
+    Or,
+    Xor,
+}
+
+/// Why an operator gives no integer.
+#[derive(Clone, Copy, Debug, PartialEq, Eq)]
+pub enum NumFault {
+    /// The divisor is 0.
+    DivZero,
+    /// The result lies out of range, or an exponent or a number of places is negative.
+    NumberRange,
+}
+
+/// What Python's operator gives of two integers: division and remainder round down, and the bits
+/// of a negative number are those of two's complement.
+#[tactic(auto, unfolding(crate::specs::Numbers::python_value))]
+pub fn int_op(op: PyOp, a: i128, b: i128) -> Result<i128, NumFault>
+    requires first { IsInteger a }
+    requires second { IsInteger b }
+    ensures value { result ≡ python_value op a b }
+    ensures range { IfOk result (λ z. IsInteger z) }
+{
+    match op {
+        PyOp::Add => sum(a, b),
+        PyOp::Sub => difference(a, b),
+        PyOp::Mul => product(a, b),
+        PyOp::FloorDiv => quotient(a, b),
+        PyOp::Mod => remainder(a, b),
+        PyOp::Pow => power(a, b),
+        PyOp::Shl => left_shift(a, b),
+        PyOp::Shr => right_shift(a, b),
+        PyOp::And => both_bits(a, b),
+        PyOp::Or => either_bits(a, b),
+        PyOp::Xor => unequal_bits(a, b),
+    }
+}
+
+// The number, where it lies in the range.
+fn in_range(number: i128) -> Result<i128, NumFault>
+    ensures { result ≡ ranged number }
+{
+    if number.unsigned_abs() < 1 << 127 {
+        Ok(number)
+    } else {
+        Err(NumFault::NumberRange)
+    }
+}
+
+// The number, where one of 128 bits could be computed and lies in the range.
+fn checked(number: Option<i128>) -> Result<i128, NumFault>
+    ensures { MatchOption number (result ≡ Err NumFault.NumberRange) (λ z. result ≡ ranged z) }
+{
+    match number {
+        Some(number) => in_range(number),
+        None => Err(NumFault::NumberRange),
+    }
+}
+
+fn sum(a: i128, b: i128) -> Result<i128, NumFault>
+    ensures { result ≡ ranged (a +ℤ b) }
+{
+    checked(a.checked_add(b))
+}
+
+fn difference(a: i128, b: i128) -> Result<i128, NumFault>
+    ensures { result ≡ ranged (a -ℤ b) }
+{
+    checked(a.checked_sub(b))
+}
+
+fn product(a: i128, b: i128) -> Result<i128, NumFault>
+    ensures { result ≡ ranged (a *ℤ b) }
+{
+    checked(a.checked_mul(b))
+}
+
+// The quotient, rounded down: by a negative divisor it is that of the two opposite numbers.
+fn quotient(a: i128, b: i128) -> Result<i128, NumFault>
+    requires first { IsInteger a }
+    requires second { IsInteger b }
+    ensures { result ≡ divided b (floor_quotient a b) }
+{
+    if b == 0 {
+        Err(NumFault::DivZero)
+    } else if b < 0 {
+        in_range((-a).div_euclid(-b))
+    } else {
+        in_range(a.div_euclid(b))
+    }
+}
+
+// The remainder, with the divisor's sign.
+fn remainder(a: i128, b: i128) -> Result<i128, NumFault>
+    requires first { IsInteger a }
+    requires second { IsInteger b }
+    ensures { result ≡ divided b (floor_remainder a b) }
+{
+    if b == 0 {
+        Err(NumFault::DivZero)
+    } else if b < 0 {
+        in_range(-(-a).rem_euclid(-b))
+    } else {
+        in_range(a.rem_euclid(b))
+    }
+}
+
+// The power, by an exponent that is not negative.
+fn power(a: i128, b: i128) -> Result<i128, NumFault>
+    ensures { result ≡ counted (int_pow a) b }
+{
+    if b < 0 {
+        Err(NumFault::NumberRange)
+    } else {
+        any_power(a, b.unsigned_abs())
+    }
+}
+
+fn any_power(a: i128, exponent: u128) -> Result<i128, NumFault>
+    ensures { result ≡ ranged (int_pow a exponent) }
+{
+    short_power(a, short_exponent(exponent))
+}
+
+// From 128 on all that an exponent still tells is whether it is odd.
+fn short_exponent(exponent: u128) -> u32
+    ensures { result ≡ (if nat_lt exponent 128 then exponent else 128 + exponent % 2) }
+{
+    if exponent < 128 {
+        exponent as u32
+    } else {
+        128 + (exponent % 2) as u32
+    }
+}
+
+fn short_power(a: i128, exponent: u32) -> Result<i128, NumFault>
+    ensures { result ≡ ranged (int_pow a exponent) }
+{
+    checked(a.checked_pow(exponent))
+}
+
+// The number with its bits moved up, by so many places that are not negative.
+fn left_shift(a: i128, b: i128) -> Result<i128, NumFault>
+    ensures { result ≡ counted (shifted_left a) b }
+{
+    if b < 0 {
+        Err(NumFault::NumberRange)
+    } else {
+        any_left_shift(a, b.unsigned_abs())
+    }
+}
+
+// All numbers but 0 leave the range by 127 places.
+fn any_left_shift(a: i128, places: u128) -> Result<i128, NumFault>
+    ensures { result ≡ ranged (shifted_left a places) }
+{
+    if places < 127 {
+        product(a, unit(places))
+    } else if a == 0 {
+        Ok(0)
+    } else {
+        Err(NumFault::NumberRange)
+    }
+}
+
+// 2 to so many places.
+fn unit(places: u128) -> i128
+    requires { places < 127 }
+    ensures { result ≡ pos (2 ^ places) }
+{
+    1 << places
+}
+
+// The number with its bits moved down, by so many places that are not negative.
+fn right_shift(a: i128, b: i128) -> Result<i128, NumFault>
+    requires { IsInteger a }
+    ensures { result ≡ counted (shifted_right a) b }
+{
+    if b < 0 {
+        Err(NumFault::NumberRange)
+    } else {
+        in_range(any_right_shift(a, b.unsigned_abs()))
+    }
+}
+
+// After 127 places only the sign is left.
+fn any_right_shift(a: i128, places: u128) -> i128
+    requires { IsInteger a }
+    ensures { result ≡ shifted_right a places }
+{
+    a >> places.min(127)
+}
+
+fn both_bits(a: i128, b: i128) -> Result<i128, NumFault>
+    ensures { result ≡ ranged (int_and a b) }
+{
+    in_range(a & b)
+}
+
+fn either_bits(a: i128, b: i128) -> Result<i128, NumFault>
+    ensures { result ≡ ranged (int_or a b) }
+{
+    in_range(a | b)
+}
+
+fn unequal_bits(a: i128, b: i128) -> Result<i128, NumFault>
+    ensures { result ≡ ranged (int_xor a b) }
+{
+    in_range(a ^ b)
+}
+
+#[cfg(test)]
+mod tests {
+    use super::*;
+    use std::process::Abort;
+
+    const MOST: i128 = i128::MAX;
+
+    const RANGE: Result<i128, NumFault> = Err(NumFault::NumberRange);
+
+    const DIV_ZERO: Result<i128, NumFault> = Err(NumFault::DivZero);
+
+    fn check(rt: &impl Abort, op: PyOp, cases: &[(i128, i128, Result<i128, NumFault>)]) {
+        for (a, b, want) in cases {
+            let (a, b) = (*a, *b);
+            assert!(rt; a.unsigned_abs() < 1 << 127);
+            assert!(rt; b.unsigned_abs() < 1 << 127);
+            assert_eq!(rt; int_op(op, a, b), *want, "{op:?} of {a} and {b}");
+        }
+    }
+
+    #[test]
+    fn adds_and_multiplies(rt: HostRuntime) {
+        check(
+            &rt,
+            PyOp::Add,
+            &[
+                (2, 3, Ok(5)),
+                (MOST, -MOST, Ok(0)),
+                (MOST, 1, RANGE),
+                (-MOST, -1, RANGE),
+            ],
+        );
+        check(
+            &rt,
+            PyOp::Sub,
+            &[
+                (2, 3, Ok(-1)),
+                (0, MOST, Ok(-MOST)),
+                (-MOST, 1, RANGE),
+                (MOST, -1, RANGE),
+            ],
+        );
+        check(
+            &rt,
+            PyOp::Mul,
+            &[
+                (-4, 3, Ok(-12)),
+                (1 << 63, 1 << 63, Ok(1 << 126)),
+                (1 << 64, 1 << 63, RANGE),
+                (1 << 64, -(1 << 63), RANGE),
+            ],
+        );
+    }
+
+    #[test]
+    fn divides_downward(rt: HostRuntime) {
+        check(
+            &rt,
+            PyOp::FloorDiv,
+            &[
+                (-7, 2, Ok(-4)),
+                (7, -2, Ok(-4)),
+                (-7, -2, Ok(3)),
+                (6, -2, Ok(-3)),
+                (-MOST, -1, Ok(MOST)),
+                (-MOST, MOST - 1, Ok(-2)),
+                (7, 0, DIV_ZERO),
+                (0, 0, DIV_ZERO),
+            ],
+        );
+        check(
+            &rt,
+            PyOp::Mod,
+            &[
+                (-7, 2, Ok(1)),
+                (7, -2, Ok(-1)),
+                (-7, -2, Ok(-1)),
+                (6, -2, Ok(0)),
+                (-MOST, MOST - 1, Ok(MOST - 2)),
+                (1, -MOST, Ok(1 - MOST)),
+                (7, 0, DIV_ZERO),
+            ],
+        );
+    }
+
+    #[test]
+    fn raises_to_powers(rt: HostRuntime) {
+        check(
+            &rt,
+            PyOp::Pow,
+            &[
+                (2, 126, Ok(1 << 126)),
+                (2, 127, RANGE),
+                (-2, 126, Ok(1 << 126)),
+                (-2, 127, RANGE),
+                (-3, 3, Ok(-27)),
+                (3, 80, Ok(147808829414345923316083210206383297601)),
+                (3, 81, RANGE),
+                (-1, (1 << 126) + 1, Ok(-1)),
+                (-1, 1 << 126, Ok(1)),
+                (0, 0, Ok(1)),
+                (0, MOST, Ok(0)),
+                (1, MOST, Ok(1)),
+                (2, MOST, RANGE),
+                (-2, MOST, RANGE),
+                (2, -1, RANGE),
+                (0, -1, RANGE),
+            ],
+        );
+    }
+
+    #[test]
+    fn shifts(rt: HostRuntime) {
+        check(
+            &rt,
+            PyOp::Shl,
+            &[
+                (5, 3, Ok(40)),
+                (1, 126, Ok(1 << 126)),
+                (-1, 126, Ok(-(1 << 126))),
+                (1, 127, RANGE),
+                (-1, 127, RANGE),
+                (1, MOST, RANGE),
+                (0, MOST, Ok(0)),
+                (0, -1, RANGE),
+            ],
+        );
+        check(
+            &rt,
+            PyOp::Shr,
+            &[
+                (5, 1, Ok(2)),
+                (-5, 1, Ok(-3)),
+                (-1, 200, Ok(-1)),
+                (MOST, 126, Ok(1)),
+                (MOST, 127, Ok(0)),
+                (-MOST, 126, Ok(-2)),
+                (-MOST, MOST, Ok(-1)),
+                (1, -1, RANGE),
+            ],
+        );
+    }
+
+    #[test]
+    fn combines_bits(rt: HostRuntime) {
+        check(
+            &rt,
+            PyOp::And,
+            &[
+                (12, 10, Ok(8)),
+                (-6, 3, Ok(2)),
+                (-6, -3, Ok(-8)),
+                (-MOST, -2, RANGE),
+            ],
+        );
+        check(
+            &rt,
+            PyOp::Or,
+            &[(12, 10, Ok(14)), (-6, 3, Ok(-5)), (-6, -3, Ok(-1))],
+        );
+        check(
+            &rt,
+            PyOp::Xor,
+            &[
+                (12, 10, Ok(6)),
+                (-6, 3, Ok(-7)),
+                (5, -1, Ok(-6)),
+                (-6, -1, Ok(5)),
+                (MOST, -1, RANGE),
+            ],
+        );
+    }
+}
