@@ -1,0 +1,3 @@
+pub mod PythonWords
+pub mod VerilogWords
+pub mod WordTables
