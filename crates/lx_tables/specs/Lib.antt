@@ -1,1 +1,4 @@
 pub mod Operators
+pub mod PythonWords
+pub mod VerilogWords
+pub mod WordTables
