@@ -1,1 +1,5 @@
 pub mod Tree
+pub mod Avoided
+pub mod Names
+pub mod Fits
+pub mod Printed
