@@ -1,1 +1,5 @@
 pub mod Samples
+pub mod Pieces
+pub mod Starts
+pub mod ExprAgain
+pub mod StmtAgain

@@ -3,3 +3,4 @@ pub mod Avoided
 pub mod Names
 pub mod Fits
 pub mod Printed
+pub mod Reading
