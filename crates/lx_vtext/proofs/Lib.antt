@@ -3,3 +3,4 @@ pub mod Pieces
 pub mod Starts
 pub mod ExprAgain
 pub mod StmtAgain
+pub mod ModuleAgain

@@ -2,6 +2,7 @@
 use Rattle.std.proofs.Common.{◌≡◌, ℕ, zero, suc, ◌+◌, ◌-◌, ◌<◌, ◌≤◌, Bool, true, false, cond, not, ◌&&◌, ◌||◌, ◌==◌, List, [], ◌∷◌, ◌++◌, map, length, Option, Some, None, IsTrue, nat_eq, nat_le, bytes_eq, codes, refl, sym, ap, subst, ◌∙◌, append_assoc, arith, eq-eqb, le-leb, eqb-true, length-append}
 use Rattle.std.specs.List.{list_all, AllByRecursion}
 use Rattle.std.specs.Int.Digits.{digits_of, number_from_digits}
+use Rattle.std.proofs.lemmas.Option.{same_Some}
 use Rattle.std.proofs.lemmas.Int.Digits.{number_digits_of, all_below_base_digits_of, digits_of_step}
 use Rattle.lx_vtext.specs.Names.{is_digit, is_name_start, is_name_byte, is_spelled, is_name}
 use Rattle.lx_vtext.specs.Tree.{Name, VExpr, Literal, VLiteral}
@@ -178,3 +179,14 @@ literal_again bits signed value rest h s = rw (value_again (record { bits = bits
 
 pub first_len : (w rest : List ℕ) → length w ≤ length (w ++ rest)
 first_len w rest = omega (arith, length-append w rest)
+
+after_cases : (w b : ℕ) (ws bs rest : List ℕ) (t : Bool) → (b == w) ≡ t → (after ws bs ≡ Some rest → bs ≡ ws ++ rest) → cond t (after ws bs) None ≡ Some rest → b ∷ bs ≡ w ∷ (ws ++ rest)
+after_cases w b ws bs rest true e f h = ap (λ x. x ∷ bs) (eqb-true b w e) ∙ ap (λ xs. w ∷ xs) (f h)
+after_cases w b ws bs rest false e f h = absurd cc
+
+-- where a word is read, it stands there
+pub after_is : (w bytes rest : List ℕ) → after w bytes ≡ Some rest → bytes ≡ w ++ rest
+unfolding after
+after_is [] bytes rest h = same_Some bytes rest h
+after_is (w ∷ ws) [] rest h = absurd cc
+after_is (w ∷ ws) (b ∷ bs) rest h = after_cases w b ws bs rest (b == w) refl (after_is ws bs rest) h
