@@ -4,3 +4,5 @@ pub mod Starts
 pub mod ExprAgain
 pub mod StmtAgain
 pub mod ModuleAgain
+pub mod Gives
+pub mod Takes
