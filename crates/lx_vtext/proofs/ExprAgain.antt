@@ -1,14 +1,14 @@
 -- An expression is read again where it was printed.
-use Rattle.std.proofs.Common.{◌≡◌, ℕ, zero, suc, ◌+◌, ◌≤◌, Bool, true, false, List, [], ◌∷◌, ◌++◌, length, Option, Some, None, IsTrue, codes, refl, sym, ap, ◌∙◌, append_assoc, arith, length-append}
+use Rattle.std.proofs.Common.{◌≡◌, ℕ, zero, suc, ◌≤◌, Bool, true, List, ◌++◌, length, Some, None, IsTrue, codes, refl, append_assoc, arith, length-append}
 use Rattle.lx_vtext.specs.declared.operators.BinOp.{BinOp}
 use Rattle.lx_vtext.specs.declared.operators.BinOp.TheVariants as op
 use Rattle.lx_vtext.specs.declared.operators.UnOp.{UnOp}
 use Rattle.lx_vtext.specs.declared.operators.UnOp.TheVariants as unary
-use Rattle.lx_vtext.specs.Names.{is_digit, is_name_byte, is_name}
+use Rattle.lx_vtext.specs.Names.{is_name}
 use Rattle.lx_vtext.specs.Tree.{Name, VExpr, Net, Literal, Select, Word, Unary, Binary, Choose, Concat, Repeat, ToSigned, ToUnsigned, VExprs, NoMore, More}
 use Rattle.lx_vtext.specs.Fits.{is_literal, IsExpr, AreExprs}
 use Rattle.lx_vtext.specs.Printed.{number_text, base_text, literal_text, range_text, expr_text, more_text, unary_text, op_text}
-use Rattle.lx_vtext.specs.Reading.{◌>>=◌, if_some, Reader, after, name_at, number_at, range_at, literal_at, word_of, named_at, count_at, unary_of, unary_at, op_at, choose_at, binary_at, joined_at, round_at, with_part, more_at, parts_at, repeat_at, curly_at, to_signed_at, to_unsigned_at, sign_form_at, start_of, Start, Letter, Digit, Round, Curly, Dollar, leaf_at, form_at, nothing_at, expr_at}
+use Rattle.lx_vtext.specs.Reading.{Reader, after, word_of, named_at, count_at, unary_of, unary_at, op_at, choose_at, binary_at, joined_at, round_at, more_at, parts_at, repeat_at, curly_at, to_signed_at, to_unsigned_at, sign_form_at, start_of, Start, Letter, Digit, Round, Curly, Dollar, leaf_at, form_at, nothing_at, expr_at}
 use Rattle.lx_vtext.proofs.Pieces.{closes, closes_name, closes_digit, closes_bracket, after_again, name_again, number_again, range_again, literal_again}
 use Rattle.lx_vtext.proofs.Starts.{Plain, plain, name_start_of, number_start_of}
 

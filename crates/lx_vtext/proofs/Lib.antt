@@ -6,3 +6,4 @@ pub mod StmtAgain
 pub mod ModuleAgain
 pub mod Gives
 pub mod Takes
+pub mod ModuleTakes

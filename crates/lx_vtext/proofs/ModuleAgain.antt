@@ -1,12 +1,12 @@
 -- A module is read again where it was printed, so two modules never have the same text.
-use Rattle.std.proofs.Common.{◌≡◌, ℕ, zero, suc, ◌+◌, ◌-◌, ◌≤◌, ◌<◌, Bool, true, false, cond, ◌==◌, List, [], ◌∷◌, ◌++◌, length, Option, Some, None, IfSome, IsTrue, nat_le, flat_map, codes, refl, sym, ap, ◌∙◌, append_assoc, append-nil, arith, length-append, leb-true, leb-false, ne_eqb}
+use Rattle.std.proofs.Common.{◌≡◌, ℕ, zero, suc, ◌+◌, ◌-◌, ◌≤◌, Bool, true, false, cond, List, [], ◌∷◌, ◌++◌, length, Option, Some, None, IfSome, IsTrue, nat_le, flat_map, codes, refl, sym, ap, ◌∙◌, append_assoc, append-nil, arith, length-append, leb-true, leb-false, ne_eqb}
 use Rattle.std.specs.List.{AllByRecursion}
 use Rattle.std.proofs.lemmas.Option.{same_Some}
 use Rattle.lx_vtext.specs.Names.{is_digit, is_name_start, is_name_byte, is_name}
-use Rattle.lx_vtext.specs.Tree.{Name, VExpr, VBlock, VLiteral, VNet, VPort, VMemory, VDecl, NetDecl, MemoryDecl, VSet, VAssign, VAlways, VModule}
-use Rattle.lx_vtext.specs.Fits.{IsValue, IsNet, IsPort, IsMemory, IsDecl, IsSet, IsAssign, IsAlways, IsModule}
-use Rattle.lx_vtext.specs.Printed.{number_text, literal_text, expr_text, block_text, net_hi, bits_text, signed_text, head_text, value_text, init_text, net_text, direction_text, port_text, more_ports_text, ports_text, memory_text, decl_text, set_text, initial_text, assign_text, event_text, always_text, module_text}
-use Rattle.lx_vtext.specs.Reading.{◌>>=◌, if_some, Reader, after, name_at, number_at, value_at, expr_at, block_at, with_item, many, all_at, signed_of, signed_at, width_at, bits_at, head_at, net_of, wire_at, reg_at, net_at, port_of, input_at, output_at, port_at, more_port_at, ports_from, ports_at, net_decl_at, memory_head_at, memory_from, reg_decl_at, decl_at, set_at, initial_at, assign_at, clock_at, event_at, always_at, made_module, module_at, whole, module_of}
+use Rattle.lx_vtext.specs.Tree.{Name, VLiteral, VPort, VMemory, VDecl, NetDecl, MemoryDecl, VSet, VAssign, VAlways, VModule}
+use Rattle.lx_vtext.specs.Fits.{IsValue, IsPort, IsMemory, IsDecl, IsSet, IsAssign, IsAlways, IsModule}
+use Rattle.lx_vtext.specs.Printed.{number_text, expr_text, block_text, net_hi, bits_text, signed_text, head_text, value_text, init_text, net_text, direction_text, port_text, more_ports_text, ports_text, memory_text, decl_text, set_text, initial_text, assign_text, event_text, always_text, module_text}
+use Rattle.lx_vtext.specs.Reading.{Reader, after, name_at, many, all_at, signed_at, width_at, bits_at, head_at, net_of, wire_at, reg_at, net_at, port_of, input_at, output_at, port_at, more_port_at, ports_from, ports_at, net_decl_at, memory_head_at, memory_from, reg_decl_at, decl_at, set_at, initial_at, assign_at, clock_at, event_at, always_at, module_at, module_of}
 use Rattle.lx_vtext.proofs.Pieces.{stops, closes, closes_name, closes_digit, after_again, after_is, name_again, number_again, value_again}
 use Rattle.lx_vtext.proofs.Starts.{name_starts, differs}
 use Rattle.lx_vtext.proofs.ExprAgain.{expr_again}

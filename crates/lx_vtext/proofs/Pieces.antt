@@ -1,14 +1,14 @@
 -- Words, names, numbers and literals are read again where they were printed.
-use Rattle.std.proofs.Common.{◌≡◌, ℕ, zero, suc, ◌+◌, ◌-◌, ◌<◌, ◌≤◌, Bool, true, false, cond, not, ◌&&◌, ◌||◌, ◌==◌, List, [], ◌∷◌, ◌++◌, map, length, Option, Some, None, IsTrue, nat_eq, nat_le, bytes_eq, codes, refl, sym, ap, subst, ◌∙◌, append_assoc, arith, eq-eqb, le-leb, eqb-true, length-append}
+use Rattle.std.proofs.Common.{◌≡◌, ℕ, ◌+◌, ◌-◌, ◌<◌, ◌≤◌, Bool, true, false, cond, not, ◌&&◌, ◌||◌, ◌==◌, List, [], ◌∷◌, ◌++◌, map, length, Some, None, IsTrue, nat_eq, bytes_eq, codes, refl, sym, ap, ◌∙◌, append_assoc, arith, eq-eqb, le-leb, eqb-true, length-append}
 use Rattle.std.specs.List.{list_all, AllByRecursion}
-use Rattle.std.specs.Int.Digits.{digits_of, number_from_digits}
+use Rattle.std.specs.Int.Digits.{digits_of}
 use Rattle.std.proofs.lemmas.Option.{same_Some}
-use Rattle.std.proofs.lemmas.Int.Digits.{number_digits_of, all_below_base_digits_of, digits_of_step}
+use Rattle.std.proofs.lemmas.Int.Digits.{number_digits_of, all_below_base_digits_of}
 use Rattle.lx_vtext.specs.Names.{is_digit, is_name_start, is_name_byte, is_spelled, is_name}
-use Rattle.lx_vtext.specs.Tree.{Name, VExpr, Literal, VLiteral}
+use Rattle.lx_vtext.specs.Tree.{Name, Literal, VLiteral}
 use Rattle.lx_vtext.specs.Fits.{is_literal, IsValue}
-use Rattle.lx_vtext.specs.Printed.{number_text, base_text, literal_text, range_text, value_text}
-use Rattle.lx_vtext.specs.Reading.{◌>>=◌, if_some, after, front, behind, name_at, number_value, number_of, number_at, range_at, sign_at, value_of, value_at, literal_at}
+use Rattle.lx_vtext.specs.Printed.{number_text, base_text, literal_text, value_text}
+use Rattle.lx_vtext.specs.Reading.{after, front, behind, name_at, number_value, number_at, range_at, sign_at, value_at, literal_at}
 
 pub both : (a b : Bool) → (a && b) ≡ true → (a ≡ true) × (b ≡ true)
 both true b e = (refl, e)

@@ -1,12 +1,12 @@
 -- Two modules and their texts, byte for byte.
-use Rattle.std.proofs.Common.{◌≡◌, ℕ, Bool, true, false, List, [], ◌∷◌, ◌++◌, Option, Some, None, refl}
+use Rattle.std.proofs.Common.{◌≡◌, ℕ, Bool, true, false, List, [], ◌∷◌, Some, None, IsTrue, ◌≤◌, refl, arith}
 use Rattle.std.specs.Prelude.{codes}
 use Rattle.lx_vtext.specs.declared.operators.BinOp.TheVariants as op
 use Rattle.lx_vtext.specs.declared.operators.UnOp.TheVariants as unary
-use Rattle.lx_vtext.specs.Tree.{Net, Literal, Unary, Binary, Whole, VStmt, Assign, When, NoElse, VBlock, EndBlock, InBlock, VLiteral, VNet, VPort, NetDecl, VModule}
+use Rattle.lx_vtext.specs.Tree.{Net, Literal, Unary, Binary, Whole, Assign, When, NoElse, VBlock, EndBlock, InBlock, VLiteral, VNet, NetDecl, VModule}
 use Rattle.lx_vtext.specs.Names.{is_name}
-use Rattle.lx_vtext.specs.Printed.{number_text, literal_text, range_text, head_text, memory_text, set_text, initial_text, assign_text, always_text, module_text}
-use Rattle.lx_vtext.specs.Fits.{IsModule, IsNet, IsPort, IsAssign, IsAlways}
+use Rattle.lx_vtext.specs.Printed.{number_text, literal_text, head_text, assign_text, always_text, module_text}
+use Rattle.lx_vtext.specs.Fits.{IsModule, IsNet, IsPort}
 
 abbrev pub wire : ℕ → List ℕ → VNet
 wire bits name = record { signed = false; bits = bits; name = name; init = None }
@@ -44,3 +44,33 @@ flip_module = record {
 pub flip_text : module_text flip_module ≡ codes "module top (\n    input wire sys_clk,\n    input wire sys_rst,\n    input wire c,\n    output reg [1:0] q = 2'd1\n);\nwire [1:0] n$0;\nassign n$0 = (~q);\nalways @(posedge sys_clk) begin\n    if (c) begin\n        q <= n$0;\n    end\n    if (sys_rst) begin\n        q <= 2'd1;\n    end\nend\nendmodule\n"
 unfolding module_text number_text head_text literal_text assign_text always_text
 flip_text = refl
+
+wire_fits : (bits : ℕ) (name : List ℕ) → 1 ≤ bits → IsTrue (is_name name) → IsNet (wire bits name)
+wire_fits bits name b n = record { name = n; bits = b; init = tt }
+
+port_fits : (is_input : Bool) (bits : ℕ) (name : List ℕ) → 1 ≤ bits → IsTrue (is_name name) → IsPort (record { is_input = is_input; net = wire bits name })
+port_fits is_input bits name b n = record { net = wire_fits bits name b n; wire = λ e. refl }
+
+-- both are modules of the profile
+pub and_fits : IsModule and_module
+unfolding is_name
+and_fits = record {
+  ports = (port_fits true 4 (codes "a") (omega arith) refl, (port_fits true 4 (codes "b") (omega arith) refl, (port_fits false 4 (codes "y") (omega arith) refl, tt)));
+  decls = (wire_fits 4 (codes "n$0") (omega arith) refl, tt);
+  inits = tt;
+  assigns = (record { name = refl; value = (refl, refl) }, (record { name = refl; value = refl }, tt));
+  always = tt;
+}
+
+false_true : false ≡ true → ⊥
+false_true e = absurd cc
+
+pub flip_fits : IsModule flip_module
+unfolding is_name
+flip_fits = record {
+  ports = (port_fits true 1 (codes "sys_clk") (omega arith) refl, (port_fits true 1 (codes "sys_rst") (omega arith) refl, (port_fits true 1 (codes "c") (omega arith) refl, (record { net = record { name = refl; bits = omega arith; init = refl }; wire = λ e. absurd (false_true e) }, tt))));
+  decls = (wire_fits 2 (codes "n$0") (omega arith) refl, tt);
+  inits = tt;
+  assigns = (record { name = refl; value = refl }, tt);
+  always = (record { clock = refl; body = ((refl, ((refl, refl), tt), tt), ((refl, ((refl, refl), tt), tt), tt)) }, tt);
+}

@@ -1,10 +1,10 @@
 -- How the text of an expression begins, which tells the forms apart.
-use Rattle.std.proofs.Common.{◌≡◌, ℕ, zero, suc, ◌+◌, ◌≤◌, Bool, true, false, cond, not, ◌&&◌, ◌||◌, ◌==◌, ◌⊎◌, inl, inr, List, [], ◌∷◌, ◌++◌, Option, Some, None, IsTrue, nat_eq, nat_le, codes, refl, sym, ap, ◌∙◌, append_assoc, arith, eqb-true, leb-true}
+use Rattle.std.proofs.Common.{◌≡◌, ℕ, zero, suc, ◌+◌, ◌≤◌, Bool, true, false, ◌&&◌, ◌||◌, ◌==◌, ◌⊎◌, inl, inr, List, [], ◌∷◌, ◌++◌, None, IsTrue, nat_le, codes, refl, sym, ap, ◌∙◌, append_assoc, arith, eqb-true, leb-true}
 use Rattle.lx_vtext.specs.Names.{is_digit, is_name_start, is_spelled, is_name}
 use Rattle.lx_vtext.specs.Tree.{Name, VExpr, Net, Literal, Select, Word, Unary, Binary, Choose, Concat, Repeat, ToSigned, ToUnsigned}
 use Rattle.lx_vtext.specs.Fits.{IsExpr}
-use Rattle.lx_vtext.specs.Printed.{number_text, base_text, literal_text, range_text, expr_text, more_text, unary_text, op_text}
-use Rattle.lx_vtext.specs.Reading.{◌>>=◌, if_some, after, number_at, range_at, count_at, unary_of, start_of, Start, Letter, Digit}
+use Rattle.lx_vtext.specs.Printed.{number_text, base_text, literal_text, range_text, expr_text}
+use Rattle.lx_vtext.specs.Reading.{after, number_at, range_at, count_at, unary_of, start_of, Letter, Digit}
 use Rattle.lx_vtext.proofs.Pieces.{both, spelled, number_again, number_starts, stops}
 
 or_cases : (a b : Bool) → (a || b) ≡ true → (a ≡ true) ⊎ (b ≡ true)

@@ -1,12 +1,12 @@
 -- A statement is read again where it was printed.
-use Rattle.std.proofs.Common.{◌≡◌, ℕ, zero, suc, ◌+◌, ◌≤◌, Bool, true, false, List, [], ◌∷◌, ◌++◌, length, Option, Some, None, IsTrue, codes, refl, sym, ap, ◌∙◌, append_assoc, arith, length-append, add-one}
+use Rattle.std.proofs.Common.{◌≡◌, ℕ, zero, suc, ◌+◌, ◌≤◌, Bool, true, false, List, ◌++◌, length, Some, None, IsTrue, codes, refl, append_assoc, arith, length-append, add-one}
 use Rattle.lx_vtext.specs.Names.{is_name}
-use Rattle.lx_vtext.specs.Tree.{Name, VExpr, VTarget, Whole, Part, WholeWord, PartWord, VStmt, Assign, When, VElse, NoElse, Else, VBlock, EndBlock, InBlock}
-use Rattle.lx_vtext.specs.Fits.{IsExpr, IsTarget, IsStmt, IsBlock, IsElse}
+use Rattle.lx_vtext.specs.Tree.{Name, VExpr, VTarget, Whole, Part, WholeWord, PartWord, VStmt, Assign, When, NoElse, Else, VBlock, EndBlock, InBlock}
+use Rattle.lx_vtext.specs.Fits.{IsExpr, IsTarget, IsStmt, IsBlock}
 use Rattle.lx_vtext.specs.Printed.{number_text, range_text, expr_text, indent, target_text, sets_text, stmt_text, else_text, block_text}
-use Rattle.lx_vtext.specs.Reading.{◌>>=◌, if_some, Reader, after, name_at, range_at, expr_at, word_target_of, target_at, sets_at, assign_stmt_at, Blocks, else_at, end_at, when_at, stmt_at, with_stmt, stmts_at, block_at}
+use Rattle.lx_vtext.specs.Reading.{Reader, after, name_at, word_target_of, target_at, sets_at, assign_stmt_at, Blocks, else_at, end_at, when_at, stmt_at, stmts_at, block_at}
 use Rattle.lx_vtext.proofs.Pieces.{closes, closes_name, closes_bracket, after_again, name_again, range_again}
-use Rattle.lx_vtext.proofs.Starts.{Plain, plain}
+use Rattle.lx_vtext.proofs.Starts.{plain}
 use Rattle.lx_vtext.proofs.ExprAgain.{expr_again}
 
 whole_again : (n : Name) (rest : List ℕ) → IsTrue (is_name n) → closes rest ≡ true → target_at (n ++ rest) ≡ Some (Whole n, rest)
@@ -120,7 +120,7 @@ mutual
       when_again (block_at d (k + 1)) k c so rest h.0 (λ r. block_from d (k + 1) so _ h.1 (λ e g n le. stmts_again e (k + 1) n so _ g (indent_ends k r) le))
   stmt_again d k (When c so (Else other)) rest h =
       else_again (block_at d (k + 1)) k c so other rest h.0 (λ r. block_from d (k + 1) so _ h.1 (λ e g n le. stmts_again e (k + 1) n so _ g (indent_ends k r) le))
-        (λ r. block_from d (k + 1) other _ h.2 (λ e g n le. stmts_again e (k + 1) n other _ g (indent_ends k r) le))
+      (λ r. block_from d (k + 1) other _ h.2 (λ e g n le. stmts_again e (k + 1) n other _ g (indent_ends k r) le))
 
   pub stmts_again : (d k n : ℕ) (b : VBlock) (rest : List ℕ) → IsBlock (suc d) b → after (indent k) rest ≡ None → length (block_text k b) ≤ n → stmts_at (stmt_at (block_at d (k + 1)) k) n (block_text k b ++ rest) ≡ (b, rest)
   stmts_again d k n EndBlock rest h e le = no_stmts (block_at d (k + 1)) k n rest e

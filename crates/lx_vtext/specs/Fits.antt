@@ -1,5 +1,5 @@
 -- Which trees have a text: names, literals in their bounds, at most 32 brackets open at a place, statements at most 128 deep.
-use Rattle.std.specs.Prelude.{◌≡◌, ℕ, zero, suc, Bool, true, false, not, ◌&&◌, ◌^◌, ◌<◌, ◌≤◌, List, Option, Some, None, IsTrue, IfSome, nat_le, nat_lt}
+use Rattle.std.specs.Prelude.{◌≡◌, ℕ, zero, suc, Bool, true, ◌&&◌, ◌^◌, ◌≤◌, None, IsTrue, IfSome, nat_le, nat_lt}
 use Rattle.std.specs.List.{AllByRecursion}
 use Rattle.lx_vtext.specs.Names.{is_name}
 use Rattle.lx_vtext.specs.Tree.{VExpr, Net, Literal, Select, Word, Unary, Binary, Choose, Concat, Repeat, ToSigned, ToUnsigned, VExprs, NoMore, More, VTarget, Whole, Part, WholeWord, PartWord, VStmt, Assign, When, VElse, NoElse, Else, VBlock, EndBlock, InBlock, VLiteral, VNet, VPort, VMemory, VDecl, NetDecl, MemoryDecl, VSet, VAssign, VAlways, VModule}

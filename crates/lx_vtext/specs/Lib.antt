@@ -4,3 +4,4 @@ pub mod Names
 pub mod Fits
 pub mod Printed
 pub mod Reading
+pub mod Laws
