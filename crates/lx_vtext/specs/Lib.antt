@@ -1,1 +1,7 @@
 pub mod Tree
+pub mod Avoided
+pub mod Names
+pub mod Fits
+pub mod Printed
+pub mod Reading
+pub mod Laws
