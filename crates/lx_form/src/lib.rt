@@ -9,3 +9,4 @@ mod testing;
 
 pub use file::{File, Line, Operator, Side, Signal};
 pub use reading::{ReadError, read};
+pub use testing::{is_target, width_of_side};

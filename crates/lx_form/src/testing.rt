@@ -86,8 +86,8 @@ fn width_of_result(operator: Operator, width: u8) -> u8
     }
 }
 
-// The width of a right side, or 0 where it has none.
-fn width_of_side(signals: &[Signal], side: Side) -> u8
+/// The width of a right side in bits, or 0 where an operand isn't made or the operands' widths differ.
+pub fn width_of_side(signals: &[Signal], side: Side) -> u8
     ensures { result ≡ side_width signals.now side }
 {
     match side {
@@ -110,7 +110,8 @@ fn widths_agree(signals: &[Signal], line: Line) -> bool
     common > 0 && width(signals, line.target) == common
 }
 
-fn is_target(letter: u8, lines: &[Line]) -> bool
+/// Whether one of the lines assigns the signal of this letter.
+pub fn is_target(letter: u8, lines: &[Line]) -> bool
     ensures { result ≡ is_assigned letter lines.now }
 {
     for line in lines {
