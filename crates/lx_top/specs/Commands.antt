@@ -15,7 +15,7 @@ is_digit b = nat_le 48 b && nat_le b 57
 abbrev pub is_size : List ℕ → Bool
 is_size [] = false
 is_size (a ∷ []) = nat_le 49 a && nat_le a 57
-is_size (a ∷ b ∷ []) = (nat_le 49 a && is_digit b) && nat_le (10 * (a - 48) + (b - 48)) 31
+is_size (a ∷ b ∷ []) = nat_le 49 a && (is_digit b && nat_le (10 * (a - 48) + (b - 48)) 31)
 is_size (a ∷ b ∷ c ∷ rest) = false
 
 abbrev pub is_word : List ℕ → List ℕ → Bool

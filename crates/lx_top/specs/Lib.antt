@@ -1,4 +1,6 @@
 pub mod Commands
-pub mod Lines
-pub mod Outcome
 pub mod Completeness
+pub mod Lines
+pub mod Making
+pub mod Outcome
+pub mod Reading

@@ -1,5 +1,5 @@
 -- What a run of the program leaves, by its status.
-use Rattle.std.specs.Prelude.{◌≡◌, ℕ, ◌≤◌, ◌<◌, List, [], ◌∷◌, ◌++◌, Option, Some, None, Result, Ok, Err, IfSome, length, codes, ◌⊎◌}
+use Rattle.std.specs.Prelude.{◌≡◌, ℕ, ◌≤◌, ◌<◌, List, [], ◌∷◌, ◌++◌, Option, Some, None, IfSome, length, codes, ◌⊎◌}
 use Rattle.lx_outside.specs.declared.calls.Pair.{Pair}
 use Rattle.lx_outside.specs.Calls.{Rose, file_of, Gains, SaysPart, StoresPart}
 use Rattle.lx_form.specs.declared.file.File.{File}
@@ -7,9 +7,6 @@ use Rattle.lx_form.specs.Form.{Says, HasNoForm}
 use Rattle.lx_translate.specs.Translation.{IsTextOf}
 use Rattle.lx_top.specs.declared.commands.Command.{Command}
 use Rattle.lx_top.specs.declared.commands.Command.TheVariants as command
-use Rattle.lx_top.specs.declared.building.Product.{Product}
-use Rattle.lx_top.specs.declared.building.BuildFault.{BuildFault}
-use Rattle.lx_top.specs.declared.building.BuildFault.TheVariants as fault
 use Rattle.lx_top.specs.declared.status.Status.{Status}
 use Rattle.lx_top.specs.declared.status.Status.TheVariants as status
 use Rattle.lx_top.specs.Commands.{command_of, word_at}
@@ -58,37 +55,9 @@ pub record HasNoBuild (told : Option (List Pair)) (name : List ℕ) : Type 0 whe
   pub short : length bytes ≤ max_bytes
   pub no_form : HasNoForm bytes
 
--- what making the texts of a description answers
-abbrev pub Describes : List ℕ → Result Product BuildFault → Type 0
-Describes bytes (Ok p) = (f : File) × Says bytes f × IsTextOf f p.text × (p.summary ≡ summary_text f.top)
-Describes bytes (Err fault.NotYetBuilt) = HasNoForm bytes
-Describes bytes (Err fault.NoMemory) = Unit {0}
-Describes bytes (Err fault.Read) = ⊥
-Describes bytes (Err fault.TooLong) = ⊥
-
--- what making the texts of a build answers, with the counts of the source before and after
-abbrev pub Makes : Option (List Pair) → List ℕ → ℕ → ℕ → Result Product BuildFault → Type 0
-Makes told name before now (Ok p) = IsBuildOf told name p.text p.summary
-Makes told name before now (Err fault.Read) = Rose before now ⊎ LacksFile told name
-Makes told name before now (Err fault.TooLong) = IsLongFile told name
-Makes told name before now (Err fault.NotYetBuilt) = HasNoBuild told name
-Makes told name before now (Err fault.NoMemory) = Unit {0}
-
 -- the whole line was said, or a prefix of it where saying it failed
 abbrev pub SaysLine : Option (List ℕ) → Option (List ℕ) → ℕ → ℕ → List ℕ → Type 0
 SaysLine old new before now line = Gains old new line ⊎ (Rose before now × SaysPart old new line)
-
-abbrev pub fault_line : List ℕ → BuildFault → List ℕ
-fault_line name fault.Read = cannot_read_line name
-fault_line name fault.TooLong = too_long_line name
-fault_line name fault.NotYetBuilt = not_built_line name
-fault_line name fault.NoMemory = no_memory_line
-
-abbrev pub fault_status : BuildFault → Status
-fault_status fault.Read = status.ReadFault
-fault_status fault.TooLong = status.Refused
-fault_status fault.NotYetBuilt = status.Refused
-fault_status fault.NoMemory = status.NoMemory
 
 -- the line on err
 abbrev pub Tells : World → World → List ℕ → Type 0

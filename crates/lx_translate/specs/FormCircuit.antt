@@ -50,5 +50,5 @@ circuit_of f = record {
   signals = map (λ s. signal_of s) f.signals;
   comb = comb_of f.signals f.lines;
   domains = [];
-  ios = map (λ s. place_of f.signals s.letter) f.signals
+  ios = map (λ s. place_of f.signals s.letter) f.signals;
 }

@@ -91,14 +91,17 @@ signal_assigns ls [] = []
 signal_assigns ls (s ∷ ss) = assign_of s.letter (driven_by 0 ls s.letter) ++ signal_assigns ls ss
 
 -- The ports, the nets of the operators, their assigns, and those of the signals.
-abbrev pub module_of : File → VModule
-module_of f = record {
-  ports = map (λ s. port_of f.lines s) f.signals;
-  decls = node_decls f.signals 0 f.lines;
+abbrev pub module_from : List Signal → List Line → VModule
+module_from ss ls = record {
+  ports = map (λ s. port_of ls s) ss;
+  decls = node_decls ss 0 ls;
   inits = [];
-  assigns = node_assigns 0 f.lines ++ signal_assigns f.lines f.signals;
+  assigns = node_assigns 0 ls ++ signal_assigns ls ss;
   always = []
 }
+
+abbrev pub module_of : File → VModule
+module_of f = module_from f.signals f.lines
 
 abbrev pub names_of : File → Naming
 names_of f = record { net = λ x. net_name (letter_at f.signals x); clock = λ d. [] }

@@ -6,5 +6,4 @@ ghost use Rattle.lx_translate.specs.Translation.{IsTranslationLaw};
 /// order, and gives each signal the number that it has, after every list of steps and for all inputs that fit.
 pub fn translation_law()
     ensures { IsTranslationLaw }
-{
-}
+{}

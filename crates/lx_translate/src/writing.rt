@@ -1,9 +1,10 @@
 //! The text of the module is written straight from the description.
 
-ghost use Rattle.std.specs.Prelude.{◌≡◌, ◌++◌, ◌<◌, ◌^◌, ◌+◌, IfOk, OnOk, IsTrue, flat_map, map, codes, Some, not};
+ghost use Rattle.std.specs.Prelude.{◌≡◌, ◌++◌, ◌∷◌, [], ◌<◌, ◌^◌, ◌+◌, IfOk, OnOk, IsTrue, flat_map, map, codes, Some, not};
 ghost use Rattle.lx_form.specs.Form.{is_form, side_width, is_assigned};
 ghost use Rattle.lx_vtext.specs.Printed.{number_text, bits_text, direction_text, port_text, ports_text, more_ports_text, decl_text, assign_text, expr_text, op_text, module_text};
-ghost use Rattle.lx_translate.specs.FormModule.{net_name, node_name, has_node, after_side, bin_of, node_expr, target_expr, port_of, node_decl, node_decls, assign, node_assign, node_assigns, driven_by, assign_of, signal_assigns, module_of};
+ghost use Rattle.lx_translate.specs.FormModule.{net_name, node_name, has_node, after_side, bin_of, node_expr, target_expr, wire, port_of, node_decl, node_decls, assign, node_assign, node_assigns, driven_by, assign_of, signal_assigns, module_from};
+ghost use Rattle.lx_vtext.specs.Tree.{NetDecl};
 ghost use Rattle.lx_translate.specs.Pieces.{wire_front};
 ghost use Rattle.lx_translate.specs.Translation.{IsTextOf};
 
@@ -16,16 +17,14 @@ pub fn top_v(alloc: Global, file: &File) -> Result<Text, NoMemory>
     requires { IsTrue (is_form file.now) }
     ensures { IfOk result (λ text. IsTextOf file.now text) }
 {
-    written(alloc, file)
+    let text = written(alloc, file.signals.as_slice(), file.lines.as_slice())?;
+    Ok(text)
 }
 
-// The text of the module of a description.
-#[tactic(auto, unfolding(lx_vtext::specs::Printed::module_text))]
-fn written(alloc: Global, file: &File) -> Result<Text, NoMemory>
-    ensures { IfOk result (λ text. text ≡ module_text (module_of file.now)) }
+// The text of the module of these signals and lines.
+fn written(alloc: Global, signals: &[Signal], lines: &[Line]) -> Result<Text, NoMemory>
+    ensures { IfOk result (λ text. text ≡ module_text (module_from signals.now lines.now)) }
 {
-    let signals = file.signals.as_slice();
-    let lines = file.lines.as_slice();
     let mut text = Text::new(alloc);
     text.word(b"module top (\n")?;
     put_ports(&mut text, lines, signals)?;
@@ -37,7 +36,6 @@ fn written(alloc: Global, file: &File) -> Result<Text, NoMemory>
     Ok(text)
 }
 
-#[tactic(auto, unfolding(lx_vtext::specs::Printed::number_text))]
 fn put_number(text: &mut Text, number: u64) -> Result<(), NoMemory>
     ensures { OnOk result (text.new ≡ text.old ++ number_text number) }
 {
@@ -85,7 +83,11 @@ fn put_port(text: &mut Text, lines: &[Line], signal: Signal) -> Result<(), NoMem
 fn direction(is_output: bool) -> &'static [u8]
     ensures { result.now ≡ direction_text (not is_output) }
 {
-    if is_output { b"    output " } else { b"    input " }
+    if is_output {
+        b"    output "
+    } else {
+        b"    input "
+    }
 }
 
 fn put_more_ports(text: &mut Text, lines: &[Line], signals: &[Signal]) -> Result<(), NoMemory>
@@ -111,7 +113,19 @@ fn put_ports(text: &mut Text, lines: &[Line], signals: &[Signal]) -> Result<(), 
     let Some((first, others)) = signals.split_first() else {
         return Ok(());
     };
-    put_port(text, lines, *first)?;
+    put_some_ports(text, lines, *first, others)?;
+    Ok(())
+}
+
+fn put_some_ports(
+    text: &mut Text,
+    lines: &[Line],
+    first: Signal,
+    others: &[Signal],
+) -> Result<(), NoMemory>
+    ensures { OnOk result (text.new ≡ text.old ++ ports_text (port_of lines.now first ∷ map (λ s. port_of lines.now s) others.now)) }
+{
+    put_port(text, lines, first)?;
     put_more_ports(text, lines, others)?;
     text.word(b"\n")?;
     Ok(())
@@ -127,14 +141,26 @@ fn is_operator(side: Side) -> bool
     }
 }
 
-fn put_node_decl(text: &mut Text, signals: &[Signal], number: u64, line: Line) -> Result<(), NoMemory>
+fn put_node_decl(
+    text: &mut Text,
+    signals: &[Signal],
+    number: u64,
+    line: Line,
+) -> Result<(), NoMemory>
     ensures { OnOk result (text.new ≡ text.old ++ flat_map decl_text (node_decl signals.now number line)) }
 {
     if is_operator(line.side) {
-        put_wire_front(text, width_of_side(signals, line.side))?;
-        put_node_name(text, number)?;
-        text.word(b";\n")?;
+        put_operator_decl(text, width_of_side(signals, line.side), number)?;
     }
+    Ok(())
+}
+
+fn put_operator_decl(text: &mut Text, bits: u8, number: u64) -> Result<(), NoMemory>
+    ensures { OnOk result (text.new ≡ text.old ++ flat_map decl_text (NetDecl (wire bits (node_name number)) ∷ [])) }
+{
+    put_wire_front(text, bits)?;
+    put_node_name(text, number)?;
+    text.word(b";\n")?;
     Ok(())
 }
 
@@ -153,7 +179,11 @@ fn number_after(number: u64, side: Side) -> u64
     requires { number + 1 < 2 ^ 64 }
     ensures { result ≡ after_side number side }
 {
-    if is_operator(side) { number + 1 } else { number }
+    if is_operator(side) {
+        number + 1
+    } else {
+        number
+    }
 }
 
 fn operator_word(operator: Operator) -> &'static [u8]
@@ -186,12 +216,19 @@ fn put_node_assign(text: &mut Text, number: u64, line: Line) -> Result<(), NoMem
     ensures { OnOk result (text.new ≡ text.old ++ flat_map assign_text (node_assign number line)) }
 {
     if is_operator(line.side) {
-        text.word(b"assign ")?;
-        put_node_name(text, number)?;
-        text.word(b" = ")?;
-        put_node_expr(text, line.side)?;
-        text.word(b";\n")?;
+        put_operator_assign(text, number, line.side)?;
     }
+    Ok(())
+}
+
+fn put_operator_assign(text: &mut Text, number: u64, side: Side) -> Result<(), NoMemory>
+    ensures { OnOk result (text.new ≡ text.old ++ flat_map assign_text (assign (node_name number) (node_expr side) ∷ [])) }
+{
+    text.word(b"assign ")?;
+    put_node_name(text, number)?;
+    text.word(b" = ")?;
+    put_node_expr(text, side)?;
+    text.word(b";\n")?;
     Ok(())
 }
 
@@ -216,13 +253,13 @@ fn put_target_expr(text: &mut Text, number: u64, side: Side) -> Result<(), NoMem
     Ok(())
 }
 
-fn put_assign(text: &mut Text, number: u64, line: Line) -> Result<(), NoMemory>
-    ensures { OnOk result (text.new ≡ text.old ++ assign_text (assign (net_name line.target) (target_expr number line.side))) }
+fn put_target_assign(text: &mut Text, letter: u8, number: u64, side: Side) -> Result<(), NoMemory>
+    ensures { OnOk result (text.new ≡ text.old ++ flat_map assign_text (assign_of letter (Some (target_expr number side)))) }
 {
     text.word(b"assign ")?;
-    text.word(&[line.target])?;
+    text.word(&[letter])?;
     text.word(b" = ")?;
-    put_target_expr(text, number, line.side)?;
+    put_target_expr(text, number, side)?;
     text.word(b";\n")?;
     Ok(())
 }
@@ -234,7 +271,7 @@ fn put_assign_of(text: &mut Text, lines: &[Line], letter: u8) -> Result<(), NoMe
     let mut number = 0;
     for line in lines {
         if line.target == letter {
-            put_assign(text, number, *line)?;
+            put_target_assign(text, letter, number, line.side)?;
             return Ok(());
         }
         number = number_after(number, line.side);

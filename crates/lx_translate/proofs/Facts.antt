@@ -1,0 +1,98 @@
+-- What a file of the form keeps, signal by signal and line by line.
+use Rattle.std.proofs.Common.{◌≡◌, ℕ, ◌≤◌, ◌<◌, Bool, true, false, ◌&&◌, ◌||◌, not, cond, eqb, ltb, leb, List, [], ◌∷◌, refl, sym, ap, ◌∙◌, arith, inl, inr, eqb-true, eq-eqb, ne_eqb}
+use Rattle.std.proofs.lemmas.Bool.{and_parts, leb-true, ltb-true, cases_eq}
+use Rattle.lx_form.specs.declared.file.Operator.{Operator}
+use Rattle.lx_form.specs.declared.file.Operator.TheVariants as operator
+use Rattle.lx_form.specs.declared.file.Side.{Side}
+use Rattle.lx_form.specs.declared.file.Side.TheVariants as side
+use Rattle.lx_form.specs.declared.file.Signal.{Signal}
+use Rattle.lx_form.specs.declared.file.Line.{Line}
+use Rattle.lx_form.specs.Form.{is_lower, is_signal, are_signals, width_of, side_width, result_width, has_widths, is_assigned, reads_some, are_lines}
+use Rattle.lx_translate.proofs.Bools.{not_true, or_false}
+
+pub record SignalFits (s : Signal) (ss : List Signal) : Type 0 where
+  pub some : 1 ≤ s.width
+  pub most : s.width ≤ 64
+  pub fresh : width_of ss s.letter ≡ 0
+  pub others : are_signals ss ≡ true
+
+pub signal_fits : (s : Signal) (ss : List Signal) → are_signals (s ∷ ss) ≡ true → SignalFits s ss
+signal_fits s ss h =
+    let p = and_parts (is_signal s) (eqb (width_of ss s.letter) 0 && are_signals ss) h in
+    let q = and_parts (eqb (width_of ss s.letter) 0) (are_signals ss) p.1 in
+    let w = and_parts (leb 1 s.width) (leb s.width 64) (and_parts (is_lower s.letter) (leb 1 s.width && leb s.width 64) p.0).1 in
+    record { some = leb-true 1 s.width w.0; most = leb-true s.width 64 w.1; fresh = eqb-true (width_of ss s.letter) 0 q.0; others = q.1 }
+
+pub record LineFits (ss : List Signal) (l : Line) (ls : List Line) : Type 0 where
+  pub some : 0 < side_width ss l.side
+  pub target : width_of ss l.target ≡ side_width ss l.side
+  pub fresh : is_assigned l.target ls ≡ false
+  pub unread : reads_some l.side (l ∷ ls) ≡ false
+  pub others : are_lines ss ls ≡ true
+
+pub line_fits : (ss : List Signal) (l : Line) (ls : List Line) → are_lines ss (l ∷ ls) ≡ true → LineFits ss l ls
+line_fits ss l ls h =
+    let p = and_parts (has_widths ss l) (not (is_assigned l.target ls) && (not (reads_some l.side (l ∷ ls)) && are_lines ss ls)) h in
+    let q = and_parts (not (is_assigned l.target ls)) (not (reads_some l.side (l ∷ ls)) && are_lines ss ls) p.1 in
+    let r = and_parts (not (reads_some l.side (l ∷ ls))) (are_lines ss ls) q.1 in
+    let w = and_parts (ltb 0 (side_width ss l.side)) (eqb (width_of ss l.target) (side_width ss l.side)) p.0 in
+    record { some = ltb-true 0 (side_width ss l.side) w.0; target = eqb-true (width_of ss l.target) (side_width ss l.side) w.1; fresh = not_true (is_assigned l.target ls) q.0; unread = not_true (reads_some l.side (l ∷ ls)) r.0; others = r.1 }
+
+-- a made signal has 1 to 64 bits
+pub width_most : (ss : List Signal) (a : ℕ) → are_signals ss ≡ true → width_of ss a ≤ 64
+width_most [] a h = omega arith
+width_most (s ∷ ss) a h =
+    let fits = signal_fits s ss h in
+    most_of (eqb s.letter a) s.width (width_of ss a) fits.most (width_most ss a fits.others)
+  where
+  most_of : (b : Bool) (x y : ℕ) → x ≤ 64 → y ≤ 64 → cond b x y ≤ 64
+  most_of true x y p q = p
+  most_of false x y p q = q
+
+-- a signal that isn't made again has another letter
+pub other_letter : (s : Signal) (ss : List Signal) (a : ℕ) → 1 ≤ s.width → width_of (s ∷ ss) a ≡ 0 → (eqb s.letter a ≡ false) × (width_of ss a ≡ 0)
+other_letter s ss a some none =
+    elim (cases_eq s.letter a) [
+      | inl same ↦
+          let first : width_of (s ∷ ss) a ≡ s.width = rw (eq-eqb s.letter a same) refl in
+          absurd (omega (arith, first, none, some))
+      | inr ne ↦
+          let e = ne_eqb s.letter a ne in
+          let rest : width_of (s ∷ ss) a ≡ width_of ss a = rw e refl in
+          (e, sym rest ∙ none)
+    ]
+
+-- ---- the operands of a right side
+
+pub record BothMade (ss : List Signal) (x y : ℕ) : Type 0 where
+  pub left : 0 < width_of ss x
+  pub same : width_of ss y ≡ width_of ss x
+
+pub both_made : (ss : List Signal) (x y : ℕ) (o : Operator) → 0 < side_width ss (side.Both x o y) → BothMade ss x y
+both_made ss x y o some = by_test (ltb 0 (width_of ss x) && eqb (width_of ss y) (width_of ss x)) refl some
+  where
+  by_test : (b : Bool) → (ltb 0 (width_of ss x) && eqb (width_of ss y) (width_of ss x)) ≡ b → 0 < cond b (result_width o (width_of ss x)) 0 → BothMade ss x y
+  by_test true e p =
+      let q = and_parts (ltb 0 (width_of ss x)) (eqb (width_of ss y) (width_of ss x)) e in
+      record { left = ltb-true 0 (width_of ss x) q.0; same = eqb-true (width_of ss y) (width_of ss x) q.1 }
+  by_test false e p = absurd (omega (arith, p))
+
+-- the width of the result of an operator on such operands
+pub both_width : (ss : List Signal) (x y : ℕ) (o : Operator) → BothMade ss x y → side_width ss (side.Both x o y) ≡ result_width o (width_of ss x)
+both_width ss x y o m =
+    let left : ltb 0 (width_of ss x) ≡ true = lt-ltb 0 (width_of ss x) m.left in
+    let same : eqb (width_of ss y) (width_of ss x) ≡ true = eq-eqb (width_of ss y) (width_of ss x) m.same in
+    rw (left, same) refl
+
+-- every right side has at most 64 bits
+pub side_most : (ss : List Signal) (x : Side) → are_signals ss ≡ true → side_width ss x ≤ 64
+side_most ss (side.Same x) h = width_most ss x h
+side_most ss (side.Not x) h = width_most ss x h
+side_most ss (side.Both x o y) h = by_test (ltb 0 (width_of ss x) && eqb (width_of ss y) (width_of ss x)) o
+  where
+  by_test : (b : Bool) (p : Operator) → cond b (result_width p (width_of ss x)) 0 ≤ 64
+  by_test true operator.And = width_most ss x h
+  by_test true operator.Or = width_most ss x h
+  by_test true operator.Xor = width_most ss x h
+  by_test true operator.Equal = omega arith
+  by_test false p = omega arith
