@@ -1,6 +1,8 @@
 -- A build's end, from what its parts did.
-use Rattle.std.proofs.Common.{◌≡◌, ℕ, ◌≤◌, List, Option, Some, None, Result, Ok, Err, refl, sym, ap, subst, ◌∙◌, length, inl, inr}
+use Rattle.std.proofs.Common.{◌≡◌, ℕ, ◌≤◌, List, Option, Some, None, Result, Ok, Err, refl, sym, ap, subst, ◌∙◌, length, inl, inr, arith, ◌+◌, ◌<◌}
 use Rattle.lx_outside.specs.declared.calls.Pair.{Pair}
+use Rattle.lx_outside.specs.Calls.{Loads}
+use Rattle.lx_outside.specs.declared.calls.LoadFault.TheVariants as faults
 use Rattle.lx_form.specs.declared.file.File.{File}
 use Rattle.lx_form.specs.Form.{Says}
 use Rattle.lx_top.specs.declared.commands.Command.{Command}
@@ -12,7 +14,7 @@ use Rattle.lx_top.specs.declared.status.Status.{Status}
 use Rattle.lx_top.specs.declared.status.Status.TheVariants as status
 use Rattle.lx_top.specs.Commands.{command_of, word_at}
 use Rattle.lx_top.specs.Lines.{max_bytes, build_files}
-use Rattle.lx_top.specs.Outcome.{World, Has, IsBuildOf, Delivers, IsUntouched, Tells, RefusedBy, HasFault, Ends}
+use Rattle.lx_top.specs.Outcome.{World, Has, IsBuildOf, IsLongFile, Delivers, IsUntouched, Tells, RefusedBy, HasFault, Ends}
 use Rattle.lx_top.specs.Making.{Describes, Makes, fault_line, fault_status}
 
 -- the product of what was loaded
@@ -22,6 +24,11 @@ makes_from told name bytes before now (Err fault.Read) has short d = absurd d
 makes_from told name bytes before now (Err fault.TooLong) has short d = absurd d
 makes_from told name bytes before now (Err fault.NotYetBuilt) has short d = record { bytes = bytes; loaded = has; short = short; no_form = d }
 makes_from told name bytes before now (Err fault.NoMemory) has short d = tt
+
+-- the file that is too long
+pub long_from : (told : Option (List Pair)) (name : List ℕ) (before now : ℕ) (front : List ℕ) → Loads told name max_bytes before now (Err (faults.TooLong front)) → IsLongFile told name
+long_from None name before now front l = record { bytes = front; loaded = tt; long = omega (arith, l.0) }
+long_from (Some files) name before now front l = record { bytes = l.1.file; loaded = l.1.found; long = l.1.cut_off.longer }
 
 pub ends_delivered : (words : List (List ℕ)) (a b : World) (p : Product) (s : Status) → command_of words ≡ Some command.Build → Makes a.files (word_at words 1) a.load_faults b.load_faults (Ok p)
     → Delivers (build_files p.text) p.summary a b s → Ends words a b s

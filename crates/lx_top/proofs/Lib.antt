@@ -1,3 +1,4 @@
-pub mod LineLemmas
-pub mod Endings
 pub mod Complete
+pub mod Endings
+pub mod LineLemmas
+pub mod Words

@@ -1,5 +1,5 @@
 -- Which lists of words are commands.
-use Rattle.std.specs.Prelude.{ℕ, Bool, true, false, List, [], ◌∷◌, ◌+◌, ◌-◌, ◌*◌, Option, Some, None, codes, not, ◌&&◌, nat_le, if◌then◌else◌, zero, suc}
+use Rattle.std.specs.Prelude.{ℕ, Bool, true, false, List, [], ◌∷◌, ◌+◌, ◌-◌, ◌*◌, Option, Some, None, codes, not, ◌&&◌, nat_le, if◌then◌else◌, unwrap_or, slice_get}
 use Rattle.std.specs.Str.{bytes_eq}
 use Rattle.lx_top.specs.declared.commands.Command.{Command}
 use Rattle.lx_top.specs.declared.commands.Command.TheVariants.{Build, Map, Sim, Poke, Gen}
@@ -47,6 +47,4 @@ command_of (word ∷ first ∷ second ∷ more ∷ rest) = None
 
 -- the word at a place, and no bytes past the end
 abbrev pub word_at : List (List ℕ) → ℕ → List ℕ
-word_at [] k = []
-word_at (w ∷ ws) zero = w
-word_at (w ∷ ws) (suc k) = word_at ws k
+word_at words k = unwrap_or (slice_get words k) []

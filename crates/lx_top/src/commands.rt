@@ -35,10 +35,9 @@ pub fn read_command(words: &[Word]) -> Option<Command>
 pub fn word(words: &[Word], place: usize) -> &[u8]
     ensures { result.now ≡ word_at words.now place }
 {
-    if place < words.len() {
-        words[place].as_bytes()
-    } else {
-        b""
+    match words.get(place) {
+        Some(word) => word.as_bytes(),
+        None => b"",
     }
 }
 

@@ -18,7 +18,7 @@ pub fn deliver<K: Sink, C: Console, E: Console>(
     con: &mut C,
     err: &mut E,
 ) -> Status
-    ensures { (files : Option (List Pair)) (before now : ℕ) → Delivers (build_files product.now.text) product.now.summary
+    ensures { (files later : Option (List Pair)) (before now : ℕ) → Delivers (build_files product.now.text) product.now.summary
         (record {
           files = files;
           load_faults = before;

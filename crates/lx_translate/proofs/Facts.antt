@@ -1,6 +1,6 @@
 -- What a file of the form keeps, signal by signal and line by line.
 use Rattle.std.proofs.Common.{◌≡◌, ℕ, ◌≤◌, ◌<◌, Bool, true, false, ◌&&◌, ◌||◌, not, cond, eqb, ltb, leb, List, [], ◌∷◌, refl, sym, ap, ◌∙◌, arith, inl, inr, eqb-true, eq-eqb, ne_eqb}
-use Rattle.std.proofs.lemmas.Bool.{and_parts, leb-true, ltb-true, cases_eq}
+use Rattle.std.proofs.lemmas.Bool.{and_parts, leb-true, ltb-true, lt-ltb, cases_eq}
 use Rattle.lx_form.specs.declared.file.Operator.{Operator}
 use Rattle.lx_form.specs.declared.file.Operator.TheVariants as operator
 use Rattle.lx_form.specs.declared.file.Side.{Side}

@@ -1,2 +1,12 @@
 pub mod Joins
+pub mod Bools
+pub mod Names
+pub mod Facts
+pub mod Drivers
+pub mod Nets
+pub mod Assigns
+pub mod Loop
+pub mod Circ
+pub mod Operators
+pub mod Follow
 pub mod Theorem
