@@ -1,9 +1,9 @@
 -- The processor's operators on patterns of 128 bits are those on the whole numbers that the patterns stand for.
-use Rattle.std.proofs.Common.{◌≡◌, ℕ, ◌+◌, ◌-◌, ◌*◌, ◌^◌, ◌<◌, ◌≤◌, refl, sym, ◌∙◌, ap, arith}
+use Rattle.std.proofs.Common.{◌≡◌, ℕ, ◌+◌, ◌-◌, ◌^◌, ◌<◌, refl, ◌∙◌, ap, arith}
 use Rattle.std.specs.Prelude.{ℤ, pos, negsuc, suc, bit_and, bit_or, bit_xor, FitsSigned}
 use Rattle.std.specs.Int.{w128, cast_signed, cast_unsigned}
 use Rattle.std.specs.Int.Bits.{or_add_and, xor_add_and}
-use Rattle.std.proofs.lemmas.Int.{to_z-of_z, to_z_pos}
+use Rattle.std.proofs.lemmas.Int.{to_z-of_z}
 use Rattle.std.proofs.lemmas.Nat.{pow_pos, and-not, and_comm, and_le_l, and_le_r, or_lt, xor_lt, or_comm, xor_comm}
 use Rattle.lx_num.specs.Bits.{int_and, int_or, int_xor}
 

@@ -3,6 +3,7 @@
 ghost use Rattle.std.specs.Prelude.{◌≡◌, ◌<◌, ◌^◌, ◌+◌, ◌%◌, ◌+ℤ◌, ◌-ℤ◌, ◌*ℤ◌, pos, nat_lt, if◌then◌else◌, MatchOption, IfOk, Ok, Err, ℤ, ℕ};
 ghost use Rattle.std.specs.Int.{int_pow};
 ghost use Rattle.lx_num.specs.Bits.{int_and, int_or, int_xor};
+ghost use Rattle.lx_value.specs.NumberLaws.{DivisionRoundsDown, PowersMultiply};
 ghost use Rattle.lx_value.specs.Numbers.{IsInteger, python_value, ranged, divided, counted, floor_quotient, floor_remainder, shifted_left, shifted_right};
 
 /// The operators that Python has on two whole numbers.
@@ -53,6 +54,17 @@ pub fn int_op(op: PyOp, a: i128, b: i128) -> Result<i128, NumFault>
         PyOp::Xor => unequal_bits(a, b),
     }
 }
+
+/// A law: quotient and remainder make up the dividend, and the remainder lies between 0 and the
+/// divisor.
+pub fn division_law()
+    ensures { DivisionRoundsDown }
+{}
+
+/// A law: a power is a product of as many equal factors as its exponent says.
+pub fn power_law()
+    ensures { PowersMultiply }
+{}
 
 // The number, where it lies in the range.
 fn in_range(number: i128) -> Result<i128, NumFault>
