@@ -1,2 +1,4 @@
 pub mod Below
 pub mod Trees
+pub mod Stmts
+pub mod Modules

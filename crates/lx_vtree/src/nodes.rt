@@ -2,6 +2,7 @@
 
 ghost use Rattle.std.specs.Prelude.{◌≡◌, ◌<◌, length, IsTrue};
 ghost use Rattle.lx_vtree.specs.Below.{are_below, is_below};
+ghost use Rattle.lx_vtree.specs.Stmts.{are_stmts_below, is_stmt_below};
 
 use lx_arena::{Id, Node};
 use lx_text::{List, Word};
@@ -99,6 +100,32 @@ impl Node for VExpr {
 /// Whether all these places are lower than `n`.
 pub fn exprs_below(ids: &[ExprId], n: usize) -> bool
     ensures { result ≡ are_below ids.now n }
+{
+    for id in ids {
+        if id.place >= n {
+            return false;
+        }
+    }
+    true
+}
+
+impl Node for VStmt {
+    type Tag = InStmts;
+
+    ghost below = { λ s n. is_stmt_below s n };
+
+    fn below(&self, n: usize) -> bool {
+        match self {
+            VStmt::Assign { .. } => true,
+            VStmt::When { so, other: None, .. } => stmts_below(so.as_slice(), n),
+            VStmt::When { so, other: Some(other), .. } => stmts_below(so.as_slice(), n) && stmts_below(other.as_slice(), n),
+        }
+    }
+}
+
+/// Whether all these places are lower than `n`.
+pub fn stmts_below(ids: &[StmtId], n: usize) -> bool
+    ensures { result ≡ are_stmts_below ids.now n }
 {
     for id in ids {
         if id.place >= n {
