@@ -2,3 +2,4 @@ pub mod Below
 pub mod Trees
 pub mod Stmts
 pub mod Modules
+pub mod Growth

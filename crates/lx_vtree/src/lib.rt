@@ -3,6 +3,8 @@
 
 pub mod modules;
 pub mod nodes;
+pub mod trees;
 
 pub use modules::{Always, Assign, Decl, Initial, Memory, Module, Net, Parts, Port, WordInit};
 pub use nodes::{ExprId, InExprs, InStmts, Literal, StmtId, VExpr, VStmt, VTarget};
+pub use trees::{add_expr, expr, stmt};
