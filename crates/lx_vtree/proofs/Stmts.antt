@@ -92,3 +92,33 @@ within_stays f g nodes n (suc m) id low p s l =
 pub stmts_stay : (old new : List VExpr) (nodes : List VStmt) (id : ℕ) → EachLower is_stmt_below nodes → StmtsPlaced (length old) nodes → Grows old new → stmt_at (tree_at new) nodes id ≡ stmt_at (tree_at old) nodes id
 unfolding stmt_at
 stmts_stay old new nodes id low p grows = within_stays (tree_at new) (tree_at old) nodes (length old) (suc id) id low p grows.stays (omega arith)
+
+placed_more_at : (n : ℕ) (old : List VStmt) (s : VStmt) (k : ℕ) → ((j : ℕ) → IfSome (slice_get old j) (λ x. IsTrue (is_stmt_placed n x))) → IsTrue (is_stmt_placed n s) → IfSome (slice_get (old ++ s ∷ []) k) (λ x. IsTrue (is_stmt_placed n x))
+placed_more_at n [] s zero p h = h
+placed_more_at n [] s (suc k) p h = tt
+placed_more_at n (x ∷ xs) s zero p h = p zero
+placed_more_at n (x ∷ xs) s (suc k) p h = placed_more_at n xs s k (λ j. p (suc j)) h
+
+pub placed_more : (n : ℕ) (old : List VStmt) (s : VStmt) → StmtsPlaced n old → IsTrue (is_stmt_placed n s) → StmtsPlaced n (old ++ s ∷ [])
+placed_more n old s p h = record { placed = λ k. placed_more_at n old s k p.placed h }
+
+target_wider : (n m : ℕ) (t : VTarget) → n ≤ m → is_target_placed n t ≡ true → is_target_placed m t ≡ true
+target_wider n m (target.Whole name) le b = refl
+target_wider n m (target.Part name hi lo) le b = refl
+target_wider n m (target.WholeWord name index) le b = let l = ltb-true index.place n b in lt-ltb index.place m (omega arith)
+target_wider n m (target.PartWord name index hi lo) le b = let l = ltb-true index.place n b in lt-ltb index.place m (omega arith)
+
+placed_wider : (n m : ℕ) (s : VStmt) → n ≤ m → is_stmt_placed n s ≡ true → is_stmt_placed m s ≡ true
+placed_wider n m (stmt.Assign t at_once e) le b =
+    let k = both _ _ b in
+    let l = ltb-true e.place n k.1 in
+    rw (target_wider n m t le k.0, lt-ltb e.place m (omega arith)) refl
+placed_wider n m (stmt.When c so other) le b = let l = ltb-true c.place n b in lt-ltb c.place m (omega arith)
+
+some_wider : (n m : ℕ) (o : Option VStmt) → n ≤ m → IfSome o (λ x. IsTrue (is_stmt_placed n x)) → IfSome o (λ x. IsTrue (is_stmt_placed m x))
+some_wider n m None le b = tt
+some_wider n m (Some x) le b = placed_wider n m x le b
+
+-- statements stay placed while their expressions' arena grows
+pub stmts_wider : (n m : ℕ) (nodes : List VStmt) → n ≤ m → StmtsPlaced n nodes → StmtsPlaced m nodes
+stmts_wider n m nodes le p = record { placed = λ k. some_wider n m (slice_get nodes k) le (p.placed k) }

@@ -7,4 +7,4 @@ pub mod trees;
 
 pub use modules::{Always, Assign, Decl, Initial, Memory, Module, Net, Parts, Port, WordInit};
 pub use nodes::{ExprId, InExprs, InStmts, Literal, StmtId, VExpr, VStmt, VTarget};
-pub use trees::{add_expr, expr, stmt};
+pub use trees::{add_expr, add_stmt, expr, stmt};

@@ -45,3 +45,18 @@ pub fn add_expr(exprs: &mut Arena<VExpr>, node: VExpr) -> Result<ExprId, NoMemor
 {
     exprs.push(node)
 }
+
+/// Adds a statement whose parts stand already, and gives its place.
+/// The trees that hung in the arena stay.
+#[tactic(auto, using(crate::proofs::Stmts::added_stmt, crate::proofs::Stmts::placed_more))]
+pub fn add_stmt(exprs: &Arena<VExpr>, stmts: &mut Arena<VStmt>, node: VStmt) -> Result<StmtId, NoMemory>
+    requires below { IsTrue (is_stmt_below node (length stmts.old)) }
+    requires placed { IsTrue (is_stmt_placed (length exprs.now) node) }
+    requires all { StmtsPlaced (length exprs.now) stmts.old }
+    ensures ok { IfOk result (λ id. AddedStmt (tree_at exprs.now) stmts.old stmts.new id.place node) }
+    ensures placed { OnOk result (StmtsPlaced (length exprs.now) stmts.new) }
+    ensures err { OnErr result (stmts.new ≡ stmts.old) }
+{
+    let _exprs = exprs;
+    stmts.push(node)
+}
