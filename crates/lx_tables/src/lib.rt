@@ -5,5 +5,4 @@ pub mod operators;
 pub mod words;
 
 pub use operators::{Mix, Op, OpRow, OpText, op_row};
-pub use operators::{Mix, Op};
 pub use words::{LONGEST, Words, is_python_word, is_verilog_word};
