@@ -1,0 +1,4 @@
+pub mod FormCircuit
+pub mod FormModule
+pub mod Pieces
+pub mod Translation
