@@ -1,4 +1,4 @@
--- Tables of the grammar: what begins a spot, what follows it, how brackets stand in it, and how deep its first token is.
+-- Tables of the grammar: what begins a spot, what follows it, and how brackets stand in it.
 use Rattle.std.proofs.Common.{ℕ}
 use Rattle.lx_grammar.specs.declared.grammar.Spot.{Spot}
 use Rattle.lx_grammar.specs.declared.grammar.Spot.TheVariants as spot
@@ -218,75 +218,3 @@ hush spot.Listed = 1
 hush spot.Filter = 0
 hush spot.Pairs = 1
 hush spot.CommaPair = 1
-
--- more than the steps from a spot to its first token
-unfoldable pub weight : Spot → ℕ
-weight spot.File = 48
-weight spot.Import = 16
-weight spot.Dotted = 16
-weight spot.Class = 16
-weight spot.Init = 16
-weight spot.Suite = 304
-weight spot.Stmt = 304
-weight spot.If = 16
-weight spot.For = 16
-weight spot.Names = 16
-weight spot.Simple = 288
-weight spot.Values = 256
-weight spot.Place = 48
-weight spot.Expr = 240
-weight spot.Or = 224
-weight spot.And = 208
-weight spot.Not = 192
-weight spot.Comp = 176
-weight spot.Bor = 160
-weight spot.Bxor = 144
-weight spot.Band = 128
-weight spot.Shift = 112
-weight spot.Sum = 96
-weight spot.Term = 80
-weight spot.Unary = 64
-weight spot.Power = 48
-weight spot.Post = 32
-weight spot.Sub = 272
-weight spot.Args = 272
-weight spot.PlaceArg = 256
-weight spot.NameArg = 16
-weight spot.Atom = 16
-weight spot.FileLine = 32
-weight spot.Imported = 16
-weight spot.DotName = 16
-weight spot.CommaName = 16
-weight spot.Remark = 16
-weight spot.Parameter = 16
-weight spot.Default = 16
-weight spot.LastComma = 16
-weight spot.NextStmt = 320
-weight spot.Elif = 16
-weight spot.Else = 16
-weight spot.Action = 272
-weight spot.CommaExpr = 16
-weight spot.Choice = 16
-weight spot.OrMore = 16
-weight spot.AndMore = 16
-weight spot.NotWord = 16
-weight spot.Compared = 16
-weight spot.BorMore = 16
-weight spot.BxorMore = 16
-weight spot.BandMore = 16
-weight spot.ShiftMore = 16
-weight spot.SumMore = 16
-weight spot.TermMore = 16
-weight spot.Prefix = 16
-weight spot.Raised = 16
-weight spot.Trailer = 16
-weight spot.Arguments = 288
-weight spot.Bound = 256
-weight spot.CommaPlaceArg = 16
-weight spot.CommaNameArg = 16
-weight spot.Grouped = 272
-weight spot.Listing = 288
-weight spot.Listed = 272
-weight spot.Filter = 16
-weight spot.Pairs = 256
-weight spot.CommaPair = 16
