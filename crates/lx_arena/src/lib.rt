@@ -110,3 +110,42 @@ impl<T: Node + Drop> Arena<T> {
         self.nodes.as_slice()
     }
 }
+
+#[cfg(test)]
+mod tests {
+    use super::*;
+    use std::test::Fail;
+
+    #[derive(Clone, Copy, Debug, PartialEq, Eq)]
+    struct Leaves;
+
+    #[derive(Drop)]
+    enum Sum {
+        Leaf(u8),
+        Pair(Id<Leaves>, Id<Leaves>),
+    }
+
+    impl Node for Sum {
+        type Tag = Leaves;
+
+        ghost use Rattle.std.specs.Prelude.{ℕ, Bool, true, nat_lt, ◌&&◌};
+
+        ghost below = { λ node n. true };
+
+        fn below(&self, _n: usize) -> bool {
+            true
+        }
+    }
+
+    #[test]
+    fn nodes_by_place(rt: HostRuntime) -> Result<(), Fail> {
+        let mut arena: Arena<Sum> = Arena::new(rt.alloc());
+        assert!(rt; arena.is_empty());
+        let first = arena.push(Sum::Leaf(3))?;
+        let second = arena.push(Sum::Pair(first, first))?;
+        assert_eq!(rt; arena.len(), 2);
+        assert_eq!(rt; second.place, 1);
+        assert!(rt; matches!(arena.get(first), Sum::Leaf(3)));
+        Ok(())
+    }
+}

@@ -100,6 +100,11 @@ pub enum Refusal {
 }
 
 impl From<NoMemory> for Refusal {
+    ghost use Rattle.std.specs.Prelude.{◌≡◌};
+    ghost use Rattle.lx_text.specs.declared.faults.Refusal.{Refusal};
+
+    ghost from_gives = { λ _ refusal. refusal ≡ Refusal.NoMemory };
+
     fn from(_error: NoMemory) -> Refusal {
         Refusal::NoMemory
     }

@@ -8,3 +8,6 @@ pub mod texts;
 pub use faults::{Fault, Kind, LimitKind, Refusal, fault_line};
 pub use lists::{List, NoMemory, Word};
 pub use texts::Text;
+
+#[cfg(test)]
+mod tests;

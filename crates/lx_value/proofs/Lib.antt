@@ -1,2 +1,3 @@
+pub mod NumberLawsShown
 pub mod Patterns
 pub mod Ranges

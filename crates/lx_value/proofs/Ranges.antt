@@ -1,16 +1,16 @@
 -- What large exponents and numbers of places give.
-use Rattle.std.proofs.Common.{◌≡◌, ℕ, ◌+◌, ◌-◌, ◌*◌, ◌/◌, ◌%◌, ◌^◌, ◌<◌, ◌≤◌, refl, sym, ◌∙◌, ap, arith, neg_ℤ, cond, inl, inr}
-use Rattle.std.specs.Prelude.{ℤ, pos, negsuc, suc, zero, unsigned_abs, int_lt, min, FitsSigned, Result, Ok, Err, nat_lt, nat_eq, true, false, if◌then◌else◌, ◌-ℤ◌, ◌<ℤ◌}
+use Rattle.std.proofs.Common.{◌≡◌, ℕ, ◌+◌, ◌%◌, ◌^◌, ◌<◌, ◌≤◌, refl, sym, ◌∙◌, ap, arith, neg_ℤ, cond, inl, inr}
+use Rattle.std.specs.Prelude.{ℤ, pos, negsuc, suc, zero, unsigned_abs, int_lt, min, FitsSigned, Result, Err, nat_lt, nat_eq, true, false, if◌then◌else◌, ◌-ℤ◌, ◌<ℤ◌}
 use Rattle.std.specs.Int.{int_pow, int_rem_euclid, w128, cast_signed, cast_unsigned}
 use Rattle.std.specs.Int.Signed.{shr_z, mag_shr}
 use Rattle.std.proofs.lemmas.Int.{unsigned_abs-mul, ints, to_z-of_z, fits_signed_from_abs}
-use Rattle.std.proofs.lemmas.Nat.{pow_pos, div-add-mod', pow-add, mod_below}
-use Rattle.std.proofs.lemmas.Bool.{cases_lt, cond-true, cond-false}
+use Rattle.std.proofs.lemmas.Nat.{div-add-mod'}
+use Rattle.std.proofs.lemmas.Bool.{cases_lt}
 use Rattle.std.proofs.lemmas.Bool.Decides.{nat_tests}
-use Rattle.std.proofs.Math.Nat.{pow-suc, pow-le-pow_left, pow-le-pow_right, mul-le-mul_left, div-eq_of_lt, add-mul-mod_self_right}
+use Rattle.std.proofs.Math.Nat.{pow-suc, pow-le-pow_left, pow-le-pow_right, mul-le-mul_left, div-eq_of_lt}
 use Rattle.lx_num.specs.Ints.{floor_div}
 use Rattle.lx_value.specs.declared.numbers.NumFault.{NumFault}
-use Rattle.lx_value.specs.declared.numbers.NumFault.TheVariants.{DivZero, NumberRange}
+use Rattle.lx_value.specs.declared.numbers.NumFault.TheVariants.{NumberRange}
 use Rattle.lx_value.specs.Numbers.{ranged, shifted_left, shifted_right, floor_remainder, divided}
 
 pub far : (z : ℤ) → 2 ^ 127 ≤ unsigned_abs z → ranged z ≡ Err NumberRange

@@ -48,8 +48,11 @@ impl From<AllocError> for BindFault {
     }
 }
 
-/// Binds arguments to parameters: `placed` arguments without a name, and behind them one for each
+/// Binds arguments to parameters: `placed` arguments without a name, and one with a name for each
 /// key. It gives one `Bound` for each parameter, in their order.
+///
+/// It is `WrongCount` exactly where more are placed than parameters take a place, a key is no
+/// parameter's name, a parameter has two arguments, or a required one has none.
 pub fn bind(
     alloc: Global,
     params: &[Param],

@@ -3,21 +3,33 @@
 ghost use Rattle.std.specs.Prelude.{◌≡◌, ◌<◌, ◌^◌, ◌+◌, ◌%◌, ◌+ℤ◌, ◌-ℤ◌, ◌*ℤ◌, pos, nat_lt, if◌then◌else◌, MatchOption, IfOk, Ok, Err, ℤ, ℕ};
 ghost use Rattle.std.specs.Int.{int_pow};
 ghost use Rattle.lx_num.specs.Bits.{int_and, int_or, int_xor};
+ghost use Rattle.lx_value.specs.NumberLaws.{DivisionRoundsDown, PowersMultiply};
 ghost use Rattle.lx_value.specs.Numbers.{IsInteger, python_value, ranged, divided, counted, floor_quotient, floor_remainder, shifted_left, shifted_right};
 
 /// The operators that Python has on two whole numbers.
 #[derive(Clone, Copy, Debug)]
 pub enum PyOp {
+    /// `a + b`
     Add,
+    /// `a - b`
     Sub,
+    /// `a * b`
     Mul,
+    /// `a // b`
     FloorDiv,
+    /// `a % b`
     Mod,
+    /// `a ** b`
     Pow,
+    /// `a << b`
     Shl,
+    /// `a >> b`
     Shr,
+    /// `a & b`
     And,
+    /// `a | b`
     Or,
+    /// `a ^ b`
     Xor,
 }
 
@@ -30,8 +42,12 @@ pub enum NumFault {
     NumberRange,
 }
 
-/// What Python's operator gives of two integers: division and remainder round down, and the bits
-/// of a negative number are those of two's complement.
+/// What Python's operator gives of two integers, each from -(2^127 - 1) to 2^127 - 1: division
+/// rounds down, a remainder has the divisor's sign, and the bits of a negative number are those of
+/// two's complement (The Python Language Reference, "Binary arithmetic operations").
+///
+/// A zero divisor is `DivZero`. A result out of the range, and a negative exponent or number of
+/// places, is `NumberRange`.
 #[tactic(auto, unfolding(crate::specs::Numbers::python_value))]
 pub fn int_op(op: PyOp, a: i128, b: i128) -> Result<i128, NumFault>
     requires first { IsInteger a }
@@ -53,6 +69,17 @@ pub fn int_op(op: PyOp, a: i128, b: i128) -> Result<i128, NumFault>
         PyOp::Xor => unequal_bits(a, b),
     }
 }
+
+/// A law: quotient and remainder make up the dividend, and the remainder lies between 0 and the
+/// divisor.
+pub fn division_law()
+    ensures { DivisionRoundsDown }
+{}
+
+/// A law: a power is a product of as many equal factors as its exponent says.
+pub fn power_law()
+    ensures { PowersMultiply }
+{}
 
 // The number, where it lies in the range.
 fn in_range(number: i128) -> Result<i128, NumFault>
@@ -123,7 +150,7 @@ fn remainder(a: i128, b: i128) -> Result<i128, NumFault>
     }
 }
 
-// The power, by an exponent that is not negative.
+// The power; a negative exponent has none.
 fn power(a: i128, b: i128) -> Result<i128, NumFault>
     ensures { result ≡ counted (int_pow a) b }
 {
@@ -157,7 +184,7 @@ fn short_power(a: i128, exponent: u32) -> Result<i128, NumFault>
     checked(a.checked_pow(exponent))
 }
 
-// The number with its bits moved up, by so many places that are not negative.
+// The number with its bits moved up, by a number of places that may not be negative.
 fn left_shift(a: i128, b: i128) -> Result<i128, NumFault>
     ensures { result ≡ counted (shifted_left a) b }
 {
@@ -189,7 +216,7 @@ fn unit(places: u128) -> i128
     1 << places
 }
 
-// The number with its bits moved down, by so many places that are not negative.
+// The number with its bits moved down, by a number of places that may not be negative.
 fn right_shift(a: i128, b: i128) -> Result<i128, NumFault>
     requires { IsInteger a }
     ensures { result ≡ counted (shifted_right a) b }

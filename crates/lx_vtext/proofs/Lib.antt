@@ -7,3 +7,4 @@ pub mod ModuleAgain
 pub mod Gives
 pub mod Takes
 pub mod ModuleTakes
+pub mod Numbers

@@ -3,6 +3,7 @@ use Rattle.std.proofs.Common.{◌≡◌, ℕ, zero, suc, ◌+◌, ◌-◌, ◌�
 use Rattle.std.specs.List.{AllByRecursion}
 use Rattle.std.proofs.lemmas.Option.{same_Some}
 use Rattle.lx_vtext.specs.Names.{is_digit, is_name_start, is_name_byte, is_name}
+use Rattle.lx_tables.specs.VerilogWords.{verilog_words}
 use Rattle.lx_vtext.specs.Tree.{Name, VLiteral, VPort, VMemory, VDecl, NetDecl, MemoryDecl, VSet, VAssign, VAlways, VModule}
 use Rattle.lx_vtext.specs.Fits.{IsValue, IsPort, IsMemory, IsDecl, IsSet, IsAssign, IsAlways, IsModule}
 use Rattle.lx_vtext.specs.Printed.{number_text, expr_text, block_text, net_hi, bits_text, signed_text, head_text, value_text, init_text, net_text, direction_text, port_text, more_ports_text, ports_text, memory_text, decl_text, set_text, initial_text, assign_text, event_text, always_text, module_text}
@@ -34,7 +35,7 @@ module _ {A : Type 0} (read : Reader A) (text : A → List ℕ) (P : A → Type 
 -- ---- nets
 
 signed_name : (rest : List ℕ) → name_at (codes "signed " ++ rest) ≡ None
-unfolding name_at is_name
+unfolding name_at is_name verilog_words
 signed_name rest = refl
 
 no_signed : (n r : List ℕ) → IsTrue (is_name n) → stops is_name_byte r ≡ true → after (codes "signed ") (n ++ r) ≡ None

@@ -3,6 +3,7 @@ use Rattle.std.proofs.Common.{◌≡◌, ℕ, Bool, true, false, List, [], ◌�
 use Rattle.std.specs.Prelude.{codes}
 use Rattle.lx_vtext.specs.declared.operators.BinOp.TheVariants as op
 use Rattle.lx_vtext.specs.declared.operators.UnOp.TheVariants as unary
+use Rattle.lx_tables.specs.VerilogWords.{verilog_words}
 use Rattle.lx_vtext.specs.Tree.{Net, Literal, Unary, Binary, Whole, Assign, When, NoElse, VBlock, EndBlock, InBlock, VLiteral, VNet, NetDecl, VModule}
 use Rattle.lx_vtext.specs.Names.{is_name}
 use Rattle.lx_vtext.specs.Printed.{number_text, literal_text, head_text, assign_text, always_text, module_text}
@@ -53,7 +54,7 @@ port_fits is_input bits name b n = record { net = wire_fits bits name b n; wire 
 
 -- both are modules of the profile
 pub and_fits : IsModule and_module
-unfolding is_name
+unfolding is_name verilog_words
 and_fits = record {
   ports = (port_fits true 4 (codes "a") (omega arith) refl, (port_fits true 4 (codes "b") (omega arith) refl, (port_fits false 4 (codes "y") (omega arith) refl, tt)));
   decls = (wire_fits 4 (codes "n$0") (omega arith) refl, tt);
@@ -66,7 +67,7 @@ false_true : false ≡ true → ⊥
 false_true e = absurd cc
 
 pub flip_fits : IsModule flip_module
-unfolding is_name
+unfolding is_name verilog_words
 flip_fits = record {
   ports = (port_fits true 1 (codes "sys_clk") (omega arith) refl, (port_fits true 1 (codes "sys_rst") (omega arith) refl, (port_fits true 1 (codes "c") (omega arith) refl, (record { net = record { name = refl; bits = omega arith; init = refl }; wire = λ e. absurd (false_true e) }, tt))));
   decls = (wire_fits 2 (codes "n$0") (omega arith) refl, tt);

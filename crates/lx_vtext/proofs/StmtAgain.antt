@@ -1,6 +1,7 @@
 -- A statement is read again where it was printed.
 use Rattle.std.proofs.Common.{◌≡◌, ℕ, zero, suc, ◌+◌, ◌≤◌, Bool, true, false, List, ◌++◌, length, Some, None, IsTrue, codes, refl, append_assoc, arith, length-append, add-one}
 use Rattle.lx_vtext.specs.Names.{is_name}
+use Rattle.lx_tables.specs.VerilogWords.{verilog_words}
 use Rattle.lx_vtext.specs.Tree.{Name, VExpr, VTarget, Whole, Part, WholeWord, PartWord, VStmt, Assign, When, NoElse, Else, VBlock, EndBlock, InBlock}
 use Rattle.lx_vtext.specs.Fits.{IsExpr, IsTarget, IsStmt, IsBlock}
 use Rattle.lx_vtext.specs.Printed.{number_text, range_text, expr_text, indent, target_text, sets_text, stmt_text, else_text, block_text}
@@ -58,7 +59,7 @@ assign_again block k t b e rest h g =
     simp append_assoc (rw (after_again (indent k) (target_text t ++ sets), target_again t sets h (sets_closes b value), sets_again b value, expr_again 32 e end g refl, after_again (codes ";\n") rest) refl)
 
 no_target : (rest : List ℕ) → target_at (codes "if (" ++ rest) ≡ None
-unfolding target_at name_at is_name
+unfolding target_at name_at is_name verilog_words
 no_target rest = refl
 
 no_else : (rest : List ℕ) → after (codes "end else begin\n") (codes "end\n" ++ rest) ≡ None

@@ -1,5 +1,4 @@
 pub mod Tree
-pub mod Avoided
 pub mod Names
 pub mod Fits
 pub mod Printed

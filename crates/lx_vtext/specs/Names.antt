@@ -1,7 +1,7 @@
 -- Names of the text: a letter or `_`, then letters, digits, `_` and `$`, and no keyword (IEEE 1364-2005, identifiers and keywords).
 use Rattle.std.specs.Prelude.{ℕ, Bool, false, not, List, [], ◌∷◌, ◌&&◌, ◌||◌, ◌==◌, nat_le}
 use Rattle.std.specs.List.{list_all}
-use Rattle.lx_vtext.specs.Avoided.{is_verilog_word}
+use Rattle.lx_tables.specs.VerilogWords.{is_verilog_word}
 
 abbrev pub is_between : ℕ → ℕ → ℕ → Bool
 is_between low high b = nat_le low b && nat_le b high

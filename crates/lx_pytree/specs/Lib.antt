@@ -1,0 +1,4 @@
+pub mod Below
+pub mod Machine
+pub mod Trees
+pub mod Weights

@@ -1,0 +1,11 @@
+pub mod Tests
+pub mod Counts
+pub mod Slots
+pub mod Taken
+pub mod Law
+pub mod Origins
+pub mod Partly
+pub mod Turns
+pub mod Doubling
+pub mod Steps
+pub mod Stuck

@@ -1,0 +1,71 @@
+//! Regions with their places, and the two windows of the address space.
+
+ghost use Rattle.std.specs.Prelude.{◌≡◌, ◌≤◌};
+ghost use Rattle.lx_regions.specs.Rounded.{rounded};
+
+/// Where a region is.
+#[derive(Clone, Copy)]
+pub enum Place {
+    /// At the origin that was stated for it.
+    Fixed(u64),
+    /// At an origin that was chosen for it.
+    Chosen(u64),
+    /// Nowhere yet.
+    Open,
+}
+
+/// A region of the address space, by its place, its rounded size in bytes, and whether it is cached.
+#[derive(Clone, Copy)]
+pub struct Spot {
+    pub place: Place,
+    pub size: u64,
+    pub cached: bool,
+}
+
+/// A region's size rounded up to a power of two, at least 4.
+pub fn rounded_size(size: u64) -> u64
+    requires { size ≤ 4294967296 }
+    ensures { result ≡ rounded size }
+{
+    size.max(4).next_power_of_two()
+}
+
+impl Spot {
+    ghost use Rattle.std.specs.Prelude.{◌<◌, ◌↔◌, IsTrue};
+    ghost use Rattle.lx_regions.specs.Space.{is_open, origin_of};
+    ghost use Rattle.lx_regions.specs.Least.{rank};
+
+    /// Whether it has no place yet.
+    pub fn is_open(&self) -> bool
+        ensures { result ≡ is_open self.now.place }
+    {
+        match self.place {
+            Place::Open => true,
+            _ => false,
+        }
+    }
+
+    /// The address of its first byte, where it has a place.
+    pub fn origin(&self) -> Option<u64>
+        ensures { result ≡ origin_of self.now.place }
+    {
+        match self.place {
+            Place::Fixed(origin) | Place::Chosen(origin) => Some(origin),
+            Place::Open => None,
+        }
+    }
+
+    /// Whether it is placed before the other, wherever they were declared: the cached window goes first, and then
+    /// the larger region.
+    pub fn is_ahead_of(&self, other: &Spot) -> bool
+        requires own { self.now.size ≤ 4294967296 }
+        requires others { other.now.size ≤ 4294967296 }
+        ensures { IsTrue result ↔ (rank other.now < rank self.now) }
+    {
+        if self.cached == other.cached {
+            self.size > other.size
+        } else {
+            self.cached
+        }
+    }
+}

@@ -1,0 +1,99 @@
+//! Expressions.
+
+ghost use Rattle.std.specs.Prelude.{◌≡◌, ◌++◌, ◌<◌, ◌≤◌, length, IsTrue, OnOk};
+ghost use Rattle.lx_vtext.specs.Printed.{expr_text, more_text};
+ghost use Rattle.lx_vtree.specs.Below.{are_below};
+ghost use Rattle.lx_vtree.specs.Trees.{plants, tree_at};
+
+use crate::leaves::{binary_sign, literal, number, range, unary_sign};
+use lx_arena::Arena;
+use lx_text::{NoMemory, Text};
+use lx_vtree::{ExprId, VExpr, expr};
+
+/// The text of the expression at a place.
+#[cycle(put)]
+pub fn put_expr(out: &mut Text, exprs: &Arena<VExpr>, id: ExprId) -> Result<(), NoMemory>
+    requires { id.place < length exprs.now }
+    ensures { OnOk result (out.new ≡ out.old ++ expr_text (tree_at exprs.now id.place)) }
+{
+    match expr(exprs, id) {
+        VExpr::Net(name) => {
+            out.word(name.as_bytes())?;
+        }
+        VExpr::Literal(value) => {
+            literal(out, value)?;
+        }
+        VExpr::Select { name, hi, lo } => {
+            out.word(name.as_bytes())?;
+            range(out, *hi, *lo)?;
+        }
+        VExpr::Word { name, index } => {
+            out.word(name.as_bytes())?;
+            out.word(b"[")?;
+            put_expr(out, exprs, *index)?;
+            out.word(b"]")?;
+        }
+        VExpr::Unary { op, of } => {
+            out.word(b"(")?;
+            out.word(unary_sign(*op))?;
+            put_expr(out, exprs, *of)?;
+            out.word(b")")?;
+        }
+        VExpr::Binary { left, op, right } => {
+            out.word(b"(")?;
+            put_expr(out, exprs, *left)?;
+            out.word(b" ")?;
+            out.word(binary_sign(*op))?;
+            out.word(b" ")?;
+            put_expr(out, exprs, *right)?;
+            out.word(b")")?;
+        }
+        VExpr::Choose { cond, so, other } => {
+            out.word(b"(")?;
+            put_expr(out, exprs, *cond)?;
+            out.word(b" ? ")?;
+            put_expr(out, exprs, *so)?;
+            out.word(b" : ")?;
+            put_expr(out, exprs, *other)?;
+            out.word(b")")?;
+        }
+        VExpr::Concat { first, more } => {
+            out.word(b"{")?;
+            put_expr(out, exprs, *first)?;
+            put_more(out, exprs, more.as_slice(), id.place)?;
+            out.word(b"}")?;
+        }
+        VExpr::Repeat { count, of } => {
+            out.word(b"{")?;
+            number(out, *count as u128)?;
+            out.word(b"{")?;
+            put_expr(out, exprs, *of)?;
+            out.word(b"}}")?;
+        }
+        VExpr::ToSigned(of) => {
+            out.word(b"$signed(")?;
+            put_expr(out, exprs, *of)?;
+            out.word(b")")?;
+        }
+        VExpr::ToUnsigned(of) => {
+            out.word(b"$unsigned(")?;
+            put_expr(out, exprs, *of)?;
+            out.word(b")")?;
+        }
+    }
+    Ok(())
+}
+
+// The further parts of `{}`, each behind a comma.
+#[cycle(put)]
+fn put_more(out: &mut Text, exprs: &Arena<VExpr>, ids: &[ExprId], bound: usize) -> Result<(), NoMemory>
+    requires below { IsTrue (are_below ids.now bound) }
+    requires within { bound ≤ length exprs.now }
+    ensures { OnOk result (out.new ≡ out.old ++ more_text (plants (tree_at exprs.now) ids.now)) }
+{
+    for id in ids {
+        out.word(b", ")?;
+        put_expr(out, exprs, *id)?;
+    }
+    Ok(())
+}

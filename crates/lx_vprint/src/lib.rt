@@ -1,0 +1,5 @@
+//! The text of a Verilog module (IEEE 1364-2005): exactly the text of its tree, and so of no other.
+#![tactic(auto)]
+
+pub mod exprs;
+pub mod leaves;

@@ -1,0 +1,10 @@
+//! The tree of a Verilog module in arenas, and what it keeps.
+#![tactic(auto)]
+
+pub mod modules;
+pub mod nodes;
+pub mod trees;
+
+pub use modules::{Always, Assign, Decl, Initial, Memory, Module, Net, Parts, Port, WordInit};
+pub use nodes::{ExprId, InExprs, InStmts, Literal, StmtId, VExpr, VStmt, VTarget};
+pub use trees::{add_expr, add_stmt, expr, stmt};
