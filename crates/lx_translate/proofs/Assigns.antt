@@ -43,9 +43,9 @@ AllNodes at k (l ∷ ls) = (has_node l.side ≡ true → at k ≡ Some l.side) �
 after_least : (k : ℕ) (s : Side) → k ≤ after_side k s
 after_least k s = by_test (has_node s)
   where
-  by_test : (b : Bool) → k ≤ cond b (k + 1) k
-  by_test true = omega arith
-  by_test false = omega arith
+    by_test : (b : Bool) → k ≤ cond b (k + 1) k
+    by_test true = omega arith
+    by_test false = omega arith
 
 nodes_lift : (at other : ℕ → Option Side) (k : ℕ) (ls : List Line) → ((j : ℕ) → k ≤ j → other j ≡ at j) → AllNodes other k ls → AllNodes at k ls
 nodes_lift at other k [] same all = tt
@@ -55,9 +55,9 @@ nodes_lift at other k (l ∷ ls) same all =
 node_later : (k : ℕ) (l : Line) (ls : List Line) (j : ℕ) → after_side k l.side ≤ j → node_at (after_side k l.side) ls j ≡ node_at k (l ∷ ls) j
 node_later k l ls j le = by_test (has_node l.side) le
   where
-  by_test : (b : Bool) → cond b (k + 1) k ≤ j → node_at (cond b (k + 1) k) ls j ≡ cond (b && eqb k j) (Some l.side) (node_at (cond b (k + 1) k) ls j)
-  by_test true h = rw (ne_eqb k j (λ e. omega (arith, e, h))) refl
-  by_test false h = refl
+    by_test : (b : Bool) → cond b (k + 1) k ≤ j → node_at (cond b (k + 1) k) ls j ≡ cond (b && eqb k j) (Some l.side) (node_at (cond b (k + 1) k) ls j)
+    by_test true h = rw (ne_eqb k j (λ e. omega (arith, e, h))) refl
+    by_test false h = refl
 
 pub all_nodes : (k : ℕ) (ls : List Line) → AllNodes (λ j. node_at k ls j) k ls
 all_nodes k [] = tt
@@ -100,13 +100,13 @@ nodes_fit SS L k (l ∷ ls) h lines all =
     let fits = line_fits SS l ls lines in
     by_test (has_node l.side) refl (line_fits SS l ls lines) (λ i a. nodes_fit SS L i ls h fits.others a) all.1
   where
-  by_test : (b : Bool) → has_node l.side ≡ b → LineFits SS l ls → ((i : ℕ) → AllNodes (λ j. node_at 0 L j) i ls → list_all (λ x. net_fits (module_from SS L) x) (node_nets SS i ls) ≡ true)
-      → AllNodes (λ j. node_at 0 L j) (after_side k l.side) ls
-      → list_all (λ x. net_fits (module_from SS L) x) (decl_nets (cond b (NetDecl (wire (side_width SS l.side) (node_name k)) ∷ []) [] ++ node_decls SS (cond b (k + 1) k) ls)) ≡ true
-  by_test true e fits ih rest =
-      both (net_fits (module_from SS L) (wire (side_width SS l.side) (node_name k))) (list_all (λ x. net_fits (module_from SS L) x) (node_nets SS (k + 1) ls))
-      (node_fits SS L k l.side h fits.some (all.0 e)) (ih (k + 1) (subst (λ (b : Bool). AllNodes (λ j. node_at 0 L j) (cond b (k + 1) k) ls) e rest))
-  by_test false e fits ih rest = ih k (subst (λ (b : Bool). AllNodes (λ j. node_at 0 L j) (cond b (k + 1) k) ls) e rest)
+    by_test : (b : Bool) → has_node l.side ≡ b → LineFits SS l ls → ((i : ℕ) → AllNodes (λ j. node_at 0 L j) i ls → list_all (λ x. net_fits (module_from SS L) x) (node_nets SS i ls) ≡ true)
+        → AllNodes (λ j. node_at 0 L j) (after_side k l.side) ls
+        → list_all (λ x. net_fits (module_from SS L) x) (decl_nets (cond b (NetDecl (wire (side_width SS l.side) (node_name k)) ∷ []) [] ++ node_decls SS (cond b (k + 1) k) ls)) ≡ true
+    by_test true e fits ih rest =
+        both (net_fits (module_from SS L) (wire (side_width SS l.side) (node_name k))) (list_all (λ x. net_fits (module_from SS L) x) (node_nets SS (k + 1) ls))
+        (node_fits SS L k l.side h fits.some (all.0 e)) (ih (k + 1) (subst (λ (b : Bool). AllNodes (λ j. node_at 0 L j) (cond b (k + 1) k) ls) e rest))
+    by_test false e fits ih rest = ih k (subst (λ (b : Bool). AllNodes (λ j. node_at 0 L j) (cond b (k + 1) k) ls) e rest)
 
 pub all_nets_fit : (SS : List Signal) (L : List Line) → are_signals SS ≡ true → are_lines SS L ≡ true → list_all (λ x. net_fits (module_from SS L) x) (all_nets (module_from SS L)) ≡ true
 all_nets_fit SS L h lines = ports_fit SS L SS (node_nets SS 0 L) h (all_made SS h) (nodes_fit SS L 0 L h lines (all_nodes 0 L))
@@ -158,10 +158,10 @@ driven_fits SS L k (l ∷ ls) a e h lines all is =
     let fits = line_fits SS l ls lines in
     by_test (eqb l.target a) (target_expr_fits SS L k l.side h fits.some all.0) (driven_fits SS L (after_side k l.side) ls a e h fits.others all.1) is
   where
-  by_test : (b : Bool) → ExprFits SS L (target_expr k l.side) → (driven_by (after_side k l.side) ls a ≡ Some e → ExprFits SS L e)
-      → cond b (Some (target_expr k l.side)) (driven_by (after_side k l.side) ls a) ≡ Some e → ExprFits SS L e
-  by_test true here ih p = subst (λ (x : VExpr). ExprFits SS L x) (some_is (target_expr k l.side) e p) here
-  by_test false here ih p = ih p
+    by_test : (b : Bool) → ExprFits SS L (target_expr k l.side) → (driven_by (after_side k l.side) ls a ≡ Some e → ExprFits SS L e)
+        → cond b (Some (target_expr k l.side)) (driven_by (after_side k l.side) ls a) ≡ Some e → ExprFits SS L e
+    by_test true here ih p = subst (λ (x : VExpr). ExprFits SS L x) (some_is (target_expr k l.side) e p) here
+    by_test false here ih p = ih p
 
 all_append : {X : Type 0} (test : X → Bool) (xs ys : List X) → list_all test xs ≡ true → list_all test ys ≡ true → list_all test (xs ++ ys) ≡ true
 all_append test [] ys p q = q
@@ -182,13 +182,13 @@ nodes_assigned SS L k (l ∷ ls) h lines all =
     let fits = line_fits SS l ls lines in
     by_test (has_node l.side) refl fits (λ i a. nodes_assigned SS L i ls h fits.others a) all.1
   where
-  by_test : (b : Bool) → has_node l.side ≡ b → LineFits SS l ls → ((i : ℕ) → AllNodes (λ j. node_at 0 L j) i ls → list_all (λ x. assign_fits (module_from SS L) x) (node_assigns i ls) ≡ true)
-      → AllNodes (λ j. node_at 0 L j) (after_side k l.side) ls
-      → list_all (λ x. assign_fits (module_from SS L) x) (cond b (assign (node_name k) (node_expr l.side) ∷ []) [] ++ node_assigns (cond b (k + 1) k) ls) ≡ true
-  by_test true e fits ih rest =
-      both (assign_fits (module_from SS L) (assign (node_name k) (node_expr l.side))) (list_all (λ x. assign_fits (module_from SS L) x) (node_assigns (k + 1) ls))
-      (node_assign_fits SS L k l.side h fits.some (all.0 e)) (ih (k + 1) (subst (λ (b : Bool). AllNodes (λ j. node_at 0 L j) (cond b (k + 1) k) ls) e rest))
-  by_test false e fits ih rest = ih k (subst (λ (b : Bool). AllNodes (λ j. node_at 0 L j) (cond b (k + 1) k) ls) e rest)
+    by_test : (b : Bool) → has_node l.side ≡ b → LineFits SS l ls → ((i : ℕ) → AllNodes (λ j. node_at 0 L j) i ls → list_all (λ x. assign_fits (module_from SS L) x) (node_assigns i ls) ≡ true)
+        → AllNodes (λ j. node_at 0 L j) (after_side k l.side) ls
+        → list_all (λ x. assign_fits (module_from SS L) x) (cond b (assign (node_name k) (node_expr l.side) ∷ []) [] ++ node_assigns (cond b (k + 1) k) ls) ≡ true
+    by_test true e fits ih rest =
+        both (assign_fits (module_from SS L) (assign (node_name k) (node_expr l.side))) (list_all (λ x. assign_fits (module_from SS L) x) (node_assigns (k + 1) ls))
+        (node_assign_fits SS L k l.side h fits.some (all.0 e)) (ih (k + 1) (subst (λ (b : Bool). AllNodes (λ j. node_at 0 L j) (cond b (k + 1) k) ls) e rest))
+    by_test false e fits ih rest = ih k (subst (λ (b : Bool). AllNodes (λ j. node_at 0 L j) (cond b (k + 1) k) ls) e rest)
 
 signals_assigned : (SS : List Signal) (L : List Line) (ss : List Signal) → are_signals SS ≡ true → are_lines SS L ≡ true → AllMade SS ss → list_all (λ x. assign_fits (module_from SS L) x) (signal_assigns L ss) ≡ true
 signals_assigned SS L [] h lines all = refl
@@ -197,10 +197,10 @@ signals_assigned SS L (s ∷ ss) h lines all =
     all_append (λ x. assign_fits (module_from SS L) x) (assign_of s.letter (driven_by 0 L s.letter)) (signal_assigns L ss)
     (by_case (driven_by 0 L s.letter) refl made) (signals_assigned SS L ss h lines all.3)
   where
-  by_case : (o : Option VExpr) → driven_by 0 L s.letter ≡ o → 0 < width_of SS s.letter → list_all (λ x. assign_fits (module_from SS L) x) (assign_of s.letter o) ≡ true
-  by_case None e made = refl
-  by_case (Some v) e made =
-      rw (net_is SS L s.letter made) (both (expr_fits (module_from SS L) v) true (whole_expr SS L v (driven_fits SS L 0 L s.letter v h lines (all_nodes 0 L) e)) refl)
+    by_case : (o : Option VExpr) → driven_by 0 L s.letter ≡ o → 0 < width_of SS s.letter → list_all (λ x. assign_fits (module_from SS L) x) (assign_of s.letter o) ≡ true
+    by_case None e made = refl
+    by_case (Some v) e made =
+        rw (net_is SS L s.letter made) (both (expr_fits (module_from SS L) v) true (whole_expr SS L v (driven_fits SS L 0 L s.letter v h lines (all_nodes 0 L) e)) refl)
 
 pub all_assigns_fit : (SS : List Signal) (L : List Line) → are_signals SS ≡ true → are_lines SS L ≡ true → list_all (λ x. assign_fits (module_from SS L) x) (node_assigns 0 L ++ signal_assigns L SS) ≡ true
 all_assigns_fit SS L h lines =

@@ -47,9 +47,9 @@ assigns-append n (x ∷ xs) ys =
 node_not_net : (a k : ℕ) (l : Line) → assign_drivers (net_name a) (node_assign k l) ≡ []
 node_not_net a k l = by_test (has_node l.side)
   where
-  by_test : (b : Bool) → assign_drivers (net_name a) (cond b (assign (node_name k) (node_expr l.side) ∷ []) []) ≡ []
-  by_test true = rw (node_net k a) refl
-  by_test false = refl
+    by_test : (b : Bool) → assign_drivers (net_name a) (cond b (assign (node_name k) (node_expr l.side) ∷ []) []) ≡ []
+    by_test true = rw (node_net k a) refl
+    by_test false = refl
 
 nodes_not_net : (a k : ℕ) (ls : List Line) → assign_drivers (net_name a) (node_assigns k ls) ≡ []
 nodes_not_net a k [] = refl
@@ -148,9 +148,9 @@ signals_not_node j L (s ∷ ss) =
     assigns-append (node_name j) (assign_of s.letter (driven_by 0 L s.letter)) (signal_assigns L ss)
     ∙ rw (none (driven_by 0 L s.letter)) (signals_not_node j L ss)
   where
-  none : (o : Option VExpr) → assign_drivers (node_name j) (assign_of s.letter o) ≡ []
-  none None = refl
-  none (Some e) = rw (net_node s.letter j) refl
+    none : (o : Option VExpr) → assign_drivers (node_name j) (assign_of s.letter o) ≡ []
+    none None = refl
+    none (Some e) = rw (net_node s.letter j) refl
 
 ports_not_node : (j : ℕ) (L : List Line) (ss : List Signal) → outside_drivers (node_name j) (map (λ s. port_of L s) ss) ≡ []
 ports_not_node j L [] = refl
@@ -159,16 +159,16 @@ ports_not_node j L (s ∷ ss) = rw (net_node s.letter j, and_false (not (is_assi
 after_least : (k : ℕ) (s : Side) → k ≤ after_side k s
 after_least k s = by_test (has_node s)
   where
-  by_test : (b : Bool) → k ≤ cond b (k + 1) k
-  by_test true = omega arith
-  by_test false = omega arith
+    by_test : (b : Bool) → k ≤ cond b (k + 1) k
+    by_test true = omega arith
+    by_test false = omega arith
 
 node_not_other : (j k : ℕ) (l : Line) → (k ≡ j → ⊥) → assign_drivers (node_name j) (node_assign k l) ≡ []
 node_not_other j k l ne = by_test (has_node l.side)
   where
-  by_test : (b : Bool) → assign_drivers (node_name j) (cond b (assign (node_name k) (node_expr l.side) ∷ []) []) ≡ []
-  by_test true = rw (node_other k j ne) refl
-  by_test false = refl
+    by_test : (b : Bool) → assign_drivers (node_name j) (cond b (assign (node_name k) (node_expr l.side) ∷ []) []) ≡ []
+    by_test true = rw (node_other k j ne) refl
+    by_test false = refl
 
 nodes_below : (j k : ℕ) (ls : List Line) → j < k → assign_drivers (node_name j) (node_assigns k ls) ≡ []
 nodes_below j k [] lt = refl
@@ -182,16 +182,16 @@ nodes_one : (j k : ℕ) (ls : List Line) → assign_drivers (node_name j) (node_
 nodes_one j k [] = refl
 nodes_one j k (l ∷ ls) = by_test (has_node l.side) (λ i. nodes_one j i ls)
   where
-  by_test : (b : Bool) → ((i : ℕ) → assign_drivers (node_name j) (node_assigns i ls) ≡ side_drivers (node_at i ls j))
-      → assign_drivers (node_name j) (cond b (assign (node_name k) (node_expr l.side) ∷ []) [] ++ node_assigns (cond b (k + 1) k) ls) ≡ side_drivers (cond (b && eqb k j) (Some l.side) (node_at (cond b (k + 1) k) ls j))
-  by_test false ih = ih k
-  by_test true ih =
-      elim (cases_eq k j) [
-        | inl same ↦
-            let below : j < k + 1 = omega arith in
-            rw (node_same k j same, eq-eqb k j same, nodes_below j (k + 1) ls below) refl
-        | inr ne ↦ rw (node_other k j ne, ne_eqb k j ne) (ih (k + 1))
-      ]
+    by_test : (b : Bool) → ((i : ℕ) → assign_drivers (node_name j) (node_assigns i ls) ≡ side_drivers (node_at i ls j))
+        → assign_drivers (node_name j) (cond b (assign (node_name k) (node_expr l.side) ∷ []) [] ++ node_assigns (cond b (k + 1) k) ls) ≡ side_drivers (cond (b && eqb k j) (Some l.side) (node_at (cond b (k + 1) k) ls j))
+    by_test false ih = ih k
+    by_test true ih =
+        elim (cases_eq k j) [
+          | inl same ↦
+              let below : j < k + 1 = omega arith in
+              rw (node_same k j same, eq-eqb k j same, nodes_below j (k + 1) ls below) refl
+          | inr ne ↦ rw (node_other k j ne, ne_eqb k j ne) (ih (k + 1))
+        ]
 
 -- the drivers of an operator's net
 pub drivers_node : (ss : List Signal) (L : List Line) (j : ℕ) → drivers (module_from ss L) (node_name j) ≡ side_drivers (node_at 0 L j)

@@ -45,9 +45,9 @@ width_most (s ∷ ss) a h =
     let fits = signal_fits s ss h in
     most_of (eqb s.letter a) s.width (width_of ss a) fits.most (width_most ss a fits.others)
   where
-  most_of : (b : Bool) (x y : ℕ) → x ≤ 64 → y ≤ 64 → cond b x y ≤ 64
-  most_of true x y p q = p
-  most_of false x y p q = q
+    most_of : (b : Bool) (x y : ℕ) → x ≤ 64 → y ≤ 64 → cond b x y ≤ 64
+    most_of true x y p q = p
+    most_of false x y p q = q
 
 -- a signal that isn't made again has another letter
 pub other_letter : (s : Signal) (ss : List Signal) (a : ℕ) → 1 ≤ s.width → width_of (s ∷ ss) a ≡ 0 → (eqb s.letter a ≡ false) × (width_of ss a ≡ 0)
@@ -71,11 +71,11 @@ pub record BothMade (ss : List Signal) (x y : ℕ) : Type 0 where
 pub both_made : (ss : List Signal) (x y : ℕ) (o : Operator) → 0 < side_width ss (side.Both x o y) → BothMade ss x y
 both_made ss x y o some = by_test (ltb 0 (width_of ss x) && eqb (width_of ss y) (width_of ss x)) refl some
   where
-  by_test : (b : Bool) → (ltb 0 (width_of ss x) && eqb (width_of ss y) (width_of ss x)) ≡ b → 0 < cond b (result_width o (width_of ss x)) 0 → BothMade ss x y
-  by_test true e p =
-      let q = and_parts (ltb 0 (width_of ss x)) (eqb (width_of ss y) (width_of ss x)) e in
-      record { left = ltb-true 0 (width_of ss x) q.0; same = eqb-true (width_of ss y) (width_of ss x) q.1 }
-  by_test false e p = absurd (omega (arith, p))
+    by_test : (b : Bool) → (ltb 0 (width_of ss x) && eqb (width_of ss y) (width_of ss x)) ≡ b → 0 < cond b (result_width o (width_of ss x)) 0 → BothMade ss x y
+    by_test true e p =
+        let q = and_parts (ltb 0 (width_of ss x)) (eqb (width_of ss y) (width_of ss x)) e in
+        record { left = ltb-true 0 (width_of ss x) q.0; same = eqb-true (width_of ss y) (width_of ss x) q.1 }
+    by_test false e p = absurd (omega (arith, p))
 
 -- the width of the result of an operator on such operands
 pub both_width : (ss : List Signal) (x y : ℕ) (o : Operator) → BothMade ss x y → side_width ss (side.Both x o y) ≡ result_width o (width_of ss x)
@@ -90,9 +90,9 @@ side_most ss (side.Same x) h = width_most ss x h
 side_most ss (side.Not x) h = width_most ss x h
 side_most ss (side.Both x o y) h = by_test (ltb 0 (width_of ss x) && eqb (width_of ss y) (width_of ss x)) o
   where
-  by_test : (b : Bool) (p : Operator) → cond b (result_width p (width_of ss x)) 0 ≤ 64
-  by_test true operator.And = width_most ss x h
-  by_test true operator.Or = width_most ss x h
-  by_test true operator.Xor = width_most ss x h
-  by_test true operator.Equal = omega arith
-  by_test false p = omega arith
+    by_test : (b : Bool) (p : Operator) → cond b (result_width p (width_of ss x)) 0 ≤ 64
+    by_test true operator.And = width_most ss x h
+    by_test true operator.Or = width_most ss x h
+    by_test true operator.Xor = width_most ss x h
+    by_test true operator.Equal = omega arith
+    by_test false p = omega arith

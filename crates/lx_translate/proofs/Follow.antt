@@ -71,9 +71,9 @@ among SS (s ∷ ss) a p =
           or_right (eqb (place_of SS s.letter) (place_of SS a)) (is_among (place_of SS a) (map (λ s. place_of SS s.letter) ss)) (among SS ss a here)
     ]
   where
-  or_right : (x y : Bool) → y ≡ true → (x || y) ≡ true
-  or_right true y e = refl
-  or_right false y e = e
+    or_right : (x y : Bool) → y ≡ true → (x || y) ≡ true
+    or_right true y e = refl
+    or_right false y e = e
 
 role_of : (b i : Bool) → Role
 role_of b i = cond b Comb (cond i Input Undriven)
@@ -88,10 +88,10 @@ role_is f a h p = rw (drives_is f.signals f.lines a h p, among f.signals f.signa
 no_sync : (f : File) (x d : ℕ) → role (circuit_of f) x ≡ Sync d → ⊥
 no_sync f x d e = by_test (drives_block x (circuit_of f).comb) (is_among x (circuit_of f).ios || false) e
   where
-  by_test : (b i : Bool) → cond b Comb (cond i Input Undriven) ≡ Sync d → ⊥
-  by_test true i q = cc
-  by_test false true q = cc
-  by_test false false q = cc
+    by_test : (b i : Bool) → cond b Comb (cond i Input Undriven) ≡ Sync d → ⊥
+    by_test true i q = cc
+    by_test false true q = cc
+    by_test false false q = cc
 
 -- ---- the value of a target
 
@@ -117,7 +117,7 @@ target_value f state inputs v a x h some settled is driven =
     let start = modulo (pos 0) (2 ^ w) in
     let taken = taken_block (shapes c) v (comb_of f.signals f.lines) in
     let shaped : by_role c state inputs v place Comb ≡ read_bits w false (after_pieces place start taken % 2 ^ w)
-          = ap (λ (m : Made). read_bits m.shape.bits m.shape.signed (after_pieces place (modulo m.reset (2 ^ m.shape.bits)) taken % 2 ^ m.shape.bits)) (made_is f a some) in
+    = ap (λ (m : Made). read_bits m.shape.bits m.shape.signed (after_pieces place (modulo m.reset (2 ^ m.shape.bits)) taken % 2 ^ m.shape.bits)) (made_is f a some) in
     let left : after_pieces place start taken ≡ left_by f.signals (shapes c) v a start (Some x) = left_is f.signals (shapes c) v f.lines a start h some ∙ ap (λ (o : Option Side). left_by f.signals (shapes c) v a start o) is in
     let laid : left_by f.signals (shapes c) v a start (Some x) ≡ laid_over start 0 w z = ap (λ (m : Made). laid_over start 0 m.shape.bits z) (made_is f a some) in
     ap (λ (y : ℤ). modulo y (2 ^ w)) (value ∙ shaped ∙ ap (λ (p : ℕ). read_bits w false (p % 2 ^ w)) (left ∙ laid)) ∙ laid_zero w z
@@ -196,18 +196,21 @@ line_same f state inputs v v_state v_inputs w k l ls hs hl fits p q lf is driven
       | inr ne ↦ same a some (neither (eqb l.target a) (is_assigned a ls) (ne_eqb l.target a ne) free)
     ]
   where
-  made : 0 < width_of f.signals l.target
-  made = omega (arith, lf.some, lf.target)
-  ops : Operands f.signals (sizes (module_of f)) (shapes (circuit_of f)) v w l.side
-  ops = operands f v w (l ∷ ls) l.side fits lf.some lf.unread same
-  drive : driver (module_of f) (net_name l.target) ≡ ByAssign (target_expr k l.side)
-  drive = ap first_driver (drivers_net f.signals f.lines l.target hs made ∙ ap driver_list driven)
-  here : w.nets (net_name l.target) ≡ modulo (v (place_of f.signals l.target)) (2 ^ width_of f.signals l.target)
-  here =
-      net_by f v_state v_inputs w (net_name l.target) (ByAssign (target_expr k l.side)) q drive
-      ∙ ap (λ d. assigned (sizes (module_of f)) w d.bits (target_expr k l.side)) (net_size f.signals f.lines l.target made ∙ ap plain lf.target)
-      ∙ target_pattern f v v_state v_inputs w k l.side q is lf.some ops
-      ∙ sym (target_value f state inputs v l.target l.side hl made p by (driven_some l.target f.lines (target_expr k l.side) driven) ∙ ap (λ (n : ℕ). modulo (value_of (shapes (circuit_of f)) v (term_of f.signals l.side)) (2 ^ n)) lf.target)
+    made : 0 < width_of f.signals l.target
+    made = omega (arith, lf.some, lf.target)
+
+    ops : Operands f.signals (sizes (module_of f)) (shapes (circuit_of f)) v w l.side
+    ops = operands f v w (l ∷ ls) l.side fits lf.some lf.unread same
+
+    drive : driver (module_of f) (net_name l.target) ≡ ByAssign (target_expr k l.side)
+    drive = ap first_driver (drivers_net f.signals f.lines l.target hs made ∙ ap driver_list driven)
+
+    here : w.nets (net_name l.target) ≡ modulo (v (place_of f.signals l.target)) (2 ^ width_of f.signals l.target)
+    here =
+        net_by f v_state v_inputs w (net_name l.target) (ByAssign (target_expr k l.side)) q drive
+        ∙ ap (λ d. assigned (sizes (module_of f)) w d.bits (target_expr k l.side)) (net_size f.signals f.lines l.target made ∙ ap plain lf.target)
+        ∙ target_pattern f v v_state v_inputs w k l.side q is lf.some ops
+        ∙ sym (target_value f state inputs v l.target l.side hl made p by (driven_some l.target f.lines (target_expr k l.side) driven) ∙ ap (λ (n : ℕ). modulo (value_of (shapes (circuit_of f)) v (term_of f.signals l.side)) (2 ^ n)) lf.target)
 
 lines_same : (f : File) (state inputs v : Values) (v_state : Valuation) (v_inputs : Name → ℕ) (w : Valuation) (k : ℕ) (ls : List Line) → are_signals f.signals ≡ true → are_lines f.signals f.lines ≡ true → are_lines f.signals ls ≡ true
     → ((y : ℕ) → Fits (shapes (circuit_of f) y) (v y)) → IsSettled (circuit_of f) state inputs v → IsVSettled (module_of f) v_state v_inputs w
@@ -236,25 +239,25 @@ inputs_same f state inputs v v_state v_inputs w hs hl p q i a some free =
     ∙ ap (λ s. modulo (inputs place) (2 ^ s.bits)) shape_is
     ∙ ap (λ (z : ℤ). modulo z (2 ^ width_of f.signals a)) (sym value)
   where
-  none_of : (o : Option VExpr) → is_some o ≡ false → o ≡ None
-  none_of None e = refl
-  none_of (Some e) q = absurd cc
+    none_of : (o : Option VExpr) → is_some o ≡ false → o ≡ None
+    none_of None e = refl
+    none_of (Some e) q = absurd cc
 
 pub follows : (f : File) → are_signals f.signals ≡ true → are_lines f.signals f.lines ≡ true → HasCycleMeaning (module_of f) → Follows (circuit_of f) (module_of f) (names_of f)
 follows f hs hl meaning = record {
   settles = λ state inputs v v_state v_inputs state_fits inputs_fit same_state same_inputs settled.
-    let one = v_views.settling (module_of f) meaning v_state v_inputs in
-    let fits = settled_fits (circuit_of f) (keeps_shapes f hs) state inputs v state_fits inputs_fit settled in
-    let same = lines_same f state inputs v v_state v_inputs one.values 0 f.lines hs hl hl fits settled one.settled (all_nodes 0 f.lines) (all_targets f.signals 0 f.lines hl) (inputs_same f state inputs v v_state v_inputs one.values hs hl settled one.settled same_inputs) in
-    (one.values, one.settled, record { each = λ x lt. signal_same f v one.values x hs lt same });
+      let one = v_views.settling (module_of f) meaning v_state v_inputs in
+      let fits = settled_fits (circuit_of f) (keeps_shapes f hs) state inputs v state_fits inputs_fit settled in
+      let same = lines_same f state inputs v v_state v_inputs one.values 0 f.lines hs hl hl fits settled one.settled (all_nodes 0 f.lines) (all_targets f.signals 0 f.lines hl) (inputs_same f state inputs v v_state v_inputs one.values hs hl settled one.settled same_inputs) in
+      (one.values, one.settled, record { each = λ x lt. signal_same f v one.values x hs lt same });
   steps = λ state inputs v v_state w rises v_rises state_fits inputs_fit same_state settled same_values edges. record { each = λ x d e. absurd (no_sync f x d e) };
   starts = record { each = λ x d e. absurd (no_sync f x d e) };
 }
   where
-  signal_same : (f : File) (v : Values) (w : Valuation) (x : ℕ) → are_signals f.signals ≡ true → x < length (circuit_of f).signals → SameFor f.signals v w [] → w.nets (net_name (letter_at f.signals x)) ≡ modulo (v x) (2 ^ (shapes (circuit_of f) x).bits)
-  signal_same f v w x hs lt same =
-      let m = made_at f.signals x hs (omega (arith, lt, length-map f.signals (λ s. signal_of s))) in
-      let shape_is : shapes (circuit_of f) (place_of f.signals (letter_at f.signals x)) ≡ unsigned (width_of f.signals (letter_at f.signals x)) = ap (λ m. m.shape) (made_is f (letter_at f.signals x) m.made) in
-      same (letter_at f.signals x) m.made refl
-      ∙ ap (λ s. modulo (v (place_of f.signals (letter_at f.signals x))) (2 ^ s.bits)) (sym shape_is)
-      ∙ ap (λ (y : ℕ). modulo (v y) (2 ^ (shapes (circuit_of f) y).bits)) m.place
+    signal_same : (f : File) (v : Values) (w : Valuation) (x : ℕ) → are_signals f.signals ≡ true → x < length (circuit_of f).signals → SameFor f.signals v w [] → w.nets (net_name (letter_at f.signals x)) ≡ modulo (v x) (2 ^ (shapes (circuit_of f) x).bits)
+    signal_same f v w x hs lt same =
+        let m = made_at f.signals x hs (omega (arith, lt, length-map f.signals (λ s. signal_of s))) in
+        let shape_is : shapes (circuit_of f) (place_of f.signals (letter_at f.signals x)) ≡ unsigned (width_of f.signals (letter_at f.signals x)) = ap (λ m. m.shape) (made_is f (letter_at f.signals x) m.made) in
+        same (letter_at f.signals x) m.made refl
+        ∙ ap (λ s. modulo (v (place_of f.signals (letter_at f.signals x))) (2 ^ s.bits)) (sym shape_is)
+        ∙ ap (λ (y : ℕ). modulo (v y) (2 ^ (shapes (circuit_of f) y).bits)) m.place

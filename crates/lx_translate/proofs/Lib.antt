@@ -10,3 +10,4 @@ pub mod Circ
 pub mod Operators
 pub mod Follow
 pub mod Theorem
+pub mod Lawful

@@ -46,9 +46,9 @@ unassigned_rank k (l ∷ ls) x none =
 after_least : (k : ℕ) (s : Side) → k ≤ after_side k s
 after_least k s = by_test (has_node s)
   where
-  by_test : (b : Bool) → k ≤ cond b (k + 1) k
-  by_test true = omega arith
-  by_test false = omega arith
+    by_test : (b : Bool) → k ≤ cond b (k + 1) k
+    by_test true = omega arith
+    by_test false = omega arith
 
 node_below : (j k : ℕ) (ls : List Line) → j < k → rank_of k ls (node_name j) ≡ 0
 node_below j k [] lt = refl
@@ -108,27 +108,28 @@ nodes_fall ss k (l ∷ ls) h =
     all_of-append (Falls k (l ∷ ls)) (node_assign k l) (node_assigns (after_side k l.side) ls) (by_test (has_node l.side) refl fits.unread)
     (all_of-weaker (Falls (after_side k l.side) ls) (Falls k (l ∷ ls)) (node_assigns (after_side k l.side) ls) (falls_later k l ls) (nodes_fall ss (after_side k l.side) ls fits.others))
   where
-  by_test : (b : Bool) → has_node l.side ≡ b → reads_some l.side (l ∷ ls) ≡ false → AllOf (Falls k (l ∷ ls)) (cond b (assign (node_name k) (node_expr l.side) ∷ []) [])
-  by_test true e none =
-      (λ n r. let low = operands_zero k (l ∷ ls) l.side n none r in let high = node_rank k l ls e in omega (arith, low, high), tt)
-  by_test false e none = tt
+    by_test : (b : Bool) → has_node l.side ≡ b → reads_some l.side (l ∷ ls) ≡ false → AllOf (Falls k (l ∷ ls)) (cond b (assign (node_name k) (node_expr l.side) ∷ []) [])
+    by_test true e none =
+        (λ n r. let low = operands_zero k (l ∷ ls) l.side n none r in let high = node_rank k l ls e in omega (arith, low, high), tt)
+    by_test false e none = tt
 
 -- what a target's driver reads has a rank below 2
 target_low : (k : ℕ) (l : Line) (ls : List Line) (n : Name) → reads_some l.side (l ∷ ls) ≡ false → reads n (target_expr k l.side) ≡ true → rank_of k (l ∷ ls) n < 2
 target_low k l ls n none r = by_side l.side refl
   where
-  at_node : has_node l.side ≡ true → bytes_eq (node_name k) n ≡ true → rank_of k (l ∷ ls) n < 2
-  at_node e q =
-      let one : rank_of k (l ∷ ls) n ≡ 1 = subst (λ (m : Name). rank_of k (l ∷ ls) m ≡ 1) (same_name (node_name k) n q) (node_rank k l ls e) in
-      omega (arith, one)
-  by_side : (s : Side) → l.side ≡ s → rank_of k (l ∷ ls) n < 2
-  by_side (side.Same x) e =
-      let q : bytes_eq (net_name x) n ≡ true = subst (λ (t : Side). reads n (target_expr k t) ≡ true) e r in
-      let p : is_assigned x (l ∷ ls) ≡ false = subst (λ (t : Side). reads_some t (l ∷ ls) ≡ false) e none in
-      let low = operand_zero k (l ∷ ls) x n p q in
-      omega (arith, low)
-  by_side (side.Not x) e = at_node (ap has_node e) (subst (λ (t : Side). reads n (target_expr k t) ≡ true) e r)
-  by_side (side.Both x o y) e = at_node (ap has_node e) (subst (λ (t : Side). reads n (target_expr k t) ≡ true) e r)
+    at_node : has_node l.side ≡ true → bytes_eq (node_name k) n ≡ true → rank_of k (l ∷ ls) n < 2
+    at_node e q =
+        let one : rank_of k (l ∷ ls) n ≡ 1 = subst (λ (m : Name). rank_of k (l ∷ ls) m ≡ 1) (same_name (node_name k) n q) (node_rank k l ls e) in
+        omega (arith, one)
+
+    by_side : (s : Side) → l.side ≡ s → rank_of k (l ∷ ls) n < 2
+    by_side (side.Same x) e =
+        let q : bytes_eq (net_name x) n ≡ true = subst (λ (t : Side). reads n (target_expr k t) ≡ true) e r in
+        let p : is_assigned x (l ∷ ls) ≡ false = subst (λ (t : Side). reads_some t (l ∷ ls) ≡ false) e none in
+        let low = operand_zero k (l ∷ ls) x n p q in
+        omega (arith, low)
+    by_side (side.Not x) e = at_node (ap has_node e) (subst (λ (t : Side). reads n (target_expr k t) ≡ true) e r)
+    by_side (side.Both x o y) e = at_node (ap has_node e) (subst (λ (t : Side). reads n (target_expr k t) ≡ true) e r)
 
 some_is : {A : Type 0} (x y : A) → Some x ≡ Some y → x ≡ y
 some_is x y e = cc
@@ -139,48 +140,48 @@ targets_fall ss k (l ∷ ls) a v h is =
     let fits = line_fits ss l ls h in
     by_test (eqb l.target a) refl fits.unread (λ p. falls_later k l ls (assign (net_name a) v) (targets_fall ss (after_side k l.side) ls a v fits.others p)) is
   where
-  by_test : (b : Bool) → eqb l.target a ≡ b → reads_some l.side (l ∷ ls) ≡ false → (driven_by (after_side k l.side) ls a ≡ Some v → Falls k (l ∷ ls) (assign (net_name a) v))
-      → cond b (Some (target_expr k l.side)) (driven_by (after_side k l.side) ls a) ≡ Some v → Falls k (l ∷ ls) (assign (net_name a) v)
-  by_test true e none ih p = λ n r.
-      let q : reads n (target_expr k l.side) ≡ true = subst (λ (t : VExpr). reads n t ≡ true) (sym (some_is (target_expr k l.side) v p)) r in
-      let low = target_low k l ls n none q in
-      let high : 2 ≤ rank_of k (l ∷ ls) (net_name a) = rw (net_same l.target a e) (lift_target (rank_of (after_side k l.side) ls (net_name a)) (has_node l.side && bytes_eq (node_name k) (net_name a))) in
-      omega (arith, low, high)
-  by_test false e none ih p = ih p
+    by_test : (b : Bool) → eqb l.target a ≡ b → reads_some l.side (l ∷ ls) ≡ false → (driven_by (after_side k l.side) ls a ≡ Some v → Falls k (l ∷ ls) (assign (net_name a) v))
+        → cond b (Some (target_expr k l.side)) (driven_by (after_side k l.side) ls a) ≡ Some v → Falls k (l ∷ ls) (assign (net_name a) v)
+    by_test true e none ih p = λ n r.
+        let q : reads n (target_expr k l.side) ≡ true = subst (λ (t : VExpr). reads n t ≡ true) (sym (some_is (target_expr k l.side) v p)) r in
+        let low = target_low k l ls n none q in
+        let high : 2 ≤ rank_of k (l ∷ ls) (net_name a) = rw (net_same l.target a e) (lift_target (rank_of (after_side k l.side) ls (net_name a)) (has_node l.side && bytes_eq (node_name k) (net_name a))) in
+        omega (arith, low, high)
+    by_test false e none ih p = ih p
 
 signals_fall : (SS : List Signal) (L : List Line) (ss : List Signal) → are_lines SS L ≡ true → AllOf (Falls 0 L) (signal_assigns L ss)
 signals_fall SS L [] h = tt
 signals_fall SS L (s ∷ ss) h =
     all_of-append (Falls 0 L) (assign_of s.letter (driven_by 0 L s.letter)) (signal_assigns L ss) (by_case (driven_by 0 L s.letter) refl) (signals_fall SS L ss h)
   where
-  by_case : (o : Option VExpr) → driven_by 0 L s.letter ≡ o → AllOf (Falls 0 L) (assign_of s.letter o)
-  by_case None e = tt
-  by_case (Some v) e = (targets_fall SS 0 L s.letter v h e, tt)
+    by_case : (o : Option VExpr) → driven_by 0 L s.letter ≡ o → AllOf (Falls 0 L) (assign_of s.letter o)
+    by_case None e = tt
+    by_case (Some v) e = (targets_fall SS 0 L s.letter v h e, tt)
 
 -- what a net reads, its assign reads
 outside_first : (n k : Name) (ps : List VPort) (rest : List Driver) → driver_reads k (first_driver (outside_drivers n ps ++ rest)) ≡ true → driver_reads k (first_driver rest) ≡ true
 outside_first n k [] rest e = e
 outside_first n k (p ∷ ps) rest e = by_test (p.is_input && bytes_eq p.net.name n) (outside_first n k ps rest) e
   where
-  by_test : (b : Bool) → (driver_reads k (first_driver (outside_drivers n ps ++ rest)) ≡ true → driver_reads k (first_driver rest) ≡ true)
-      → driver_reads k (first_driver (cond b (Outside ∷ outside_drivers n ps) (outside_drivers n ps) ++ rest)) ≡ true → driver_reads k (first_driver rest) ≡ true
-  by_test true ih q = absurd cc
-  by_test false ih q = ih q
+    by_test : (b : Bool) → (driver_reads k (first_driver (outside_drivers n ps ++ rest)) ≡ true → driver_reads k (first_driver rest) ≡ true)
+        → driver_reads k (first_driver (cond b (Outside ∷ outside_drivers n ps) (outside_drivers n ps) ++ rest)) ≡ true → driver_reads k (first_driver rest) ≡ true
+    by_test true ih q = absurd cc
+    by_test false ih q = ih q
 
 assigned_falls : (L : List Line) (n k : Name) (xs : List VAssign) → AllOf (Falls 0 L) xs → driver_reads k (first_driver (assign_drivers n xs ++ [])) ≡ true → rank_of 0 L k < rank_of 0 L n
 assigned_falls L n k [] all e = absurd cc
 assigned_falls L n k (x ∷ xs) all e = by_test (bytes_eq x.name n) refl (assigned_falls L n k xs all.1) e
   where
-  by_test : (b : Bool) → bytes_eq x.name n ≡ b → (driver_reads k (first_driver (assign_drivers n xs ++ [])) ≡ true → rank_of 0 L k < rank_of 0 L n)
-      → driver_reads k (first_driver (cond b (ByAssign x.value ∷ assign_drivers n xs) (assign_drivers n xs) ++ [])) ≡ true → rank_of 0 L k < rank_of 0 L n
-  by_test true q ih r = subst (λ (m : Name). rank_of 0 L k < rank_of 0 L m) (same_name x.name n q) (all.0 k r)
-  by_test false q ih r = ih r
+    by_test : (b : Bool) → bytes_eq x.name n ≡ b → (driver_reads k (first_driver (assign_drivers n xs ++ [])) ≡ true → rank_of 0 L k < rank_of 0 L n)
+        → driver_reads k (first_driver (cond b (ByAssign x.value ∷ assign_drivers n xs) (assign_drivers n xs) ++ [])) ≡ true → rank_of 0 L k < rank_of 0 L n
+    by_test true q ih r = subst (λ (m : Name). rank_of 0 L k < rank_of 0 L m) (same_name x.name n q) (all.0 k r)
+    by_test false q ih r = ih r
 
 pub no_loop : (SS : List Signal) (L : List Line) → are_lines SS L ≡ true → HasNoLoop (module_from SS L)
 no_loop SS L h = record {
   rank = λ n. rank_of 0 L n;
   falls = λ n k e.
-    assigned_falls L n k (node_assigns 0 L ++ signal_assigns L SS)
-    (all_of-append (Falls 0 L) (node_assigns 0 L) (signal_assigns L SS) (nodes_fall SS 0 L h) (signals_fall SS L SS h))
-    (outside_first n k (map (λ s. port_of L s) SS) (assign_drivers n (node_assigns 0 L ++ signal_assigns L SS) ++ []) e);
+      assigned_falls L n k (node_assigns 0 L ++ signal_assigns L SS)
+      (all_of-append (Falls 0 L) (node_assigns 0 L) (signal_assigns L SS) (nodes_fall SS 0 L h) (signals_fall SS L SS h))
+      (outside_first n k (map (λ s. port_of L s) SS) (assign_drivers n (node_assigns 0 L ++ signal_assigns L SS) ++ []) e);
 }

@@ -55,14 +55,14 @@ node_named : (ss : List Signal) (j k : ℕ) (ls : List Line) → net_named (node
 node_named ss j k [] = refl
 node_named ss j k (l ∷ ls) = by_test (has_node l.side) (λ i. node_named ss j i ls)
   where
-  by_test : (b : Bool) → ((i : ℕ) → net_named (node_name j) (node_nets ss i ls) ≡ named_node ss j (node_at i ls j))
-      → net_named (node_name j) (decl_nets (cond b (NetDecl (wire (side_width ss l.side) (node_name k)) ∷ []) [] ++ node_decls ss (cond b (k + 1) k) ls)) ≡ named_node ss j (cond (b && eqb k j) (Some l.side) (node_at (cond b (k + 1) k) ls j))
-  by_test false ih = ih k
-  by_test true ih =
-      elim (cases_eq k j) [
-        | inl same ↦ rw (node_same k j same, eq-eqb k j same) (ap (λ (i : ℕ). Some (wire (side_width ss l.side) (node_name i))) same)
-        | inr ne ↦ rw (node_other k j ne, ne_eqb k j ne) (ih (k + 1))
-      ]
+    by_test : (b : Bool) → ((i : ℕ) → net_named (node_name j) (node_nets ss i ls) ≡ named_node ss j (node_at i ls j))
+        → net_named (node_name j) (decl_nets (cond b (NetDecl (wire (side_width ss l.side) (node_name k)) ∷ []) [] ++ node_decls ss (cond b (k + 1) k) ls)) ≡ named_node ss j (cond (b && eqb k j) (Some l.side) (node_at (cond b (k + 1) k) ls j))
+    by_test false ih = ih k
+    by_test true ih =
+        elim (cases_eq k j) [
+          | inl same ↦ rw (node_same k j same, eq-eqb k j same) (ap (λ (i : ℕ). Some (wire (side_width ss l.side) (node_name i))) same)
+          | inr ne ↦ rw (node_other k j ne, ne_eqb k j ne) (ih (k + 1))
+        ]
 
 pub net_is : (ss : List Signal) (L : List Line) (a : ℕ) → 0 < width_of ss a → net_named (net_name a) (all_nets (module_from ss L)) ≡ Some (wire (width_of ss a) (net_name a))
 net_is ss L a some = port_named a L ss (node_nets ss 0 L) some
@@ -85,10 +85,10 @@ no_memories : (ss : List Signal) (k : ℕ) (ls : List Line) → decl_memories (n
 no_memories ss k [] = refl
 no_memories ss k (l ∷ ls) = by_test (has_node l.side) (λ i. no_memories ss i ls)
   where
-  by_test : (b : Bool) → ((i : ℕ) → decl_memories (node_decls ss i ls) ≡ [])
-      → decl_memories (cond b (NetDecl (wire (side_width ss l.side) (node_name k)) ∷ []) [] ++ node_decls ss (cond b (k + 1) k) ls) ≡ []
-  by_test false ih = ih k
-  by_test true ih = ih (k + 1)
+    by_test : (b : Bool) → ((i : ℕ) → decl_memories (node_decls ss i ls) ≡ [])
+        → decl_memories (cond b (NetDecl (wire (side_width ss l.side) (node_name k)) ∷ []) [] ++ node_decls ss (cond b (k + 1) k) ls) ≡ []
+    by_test false ih = ih k
+    by_test true ih = ih (k + 1)
 
 pub memories_none : (ss : List Signal) (L : List Line) → decl_memories (node_decls ss 0 L) ≡ []
 memories_none ss L = no_memories ss 0 L
@@ -103,28 +103,28 @@ nodes_not_named : (ss : List Signal) (a k : ℕ) (ls : List Line) → has_name (
 nodes_not_named ss a k [] = refl
 nodes_not_named ss a k (l ∷ ls) = by_test (has_node l.side) (λ i. nodes_not_named ss a i ls)
   where
-  by_test : (b : Bool) → ((i : ℕ) → has_name (net_name a) (names (node_nets ss i ls)) ≡ false)
-      → has_name (net_name a) (names (decl_nets (cond b (NetDecl (wire (side_width ss l.side) (node_name k)) ∷ []) [] ++ node_decls ss (cond b (k + 1) k) ls))) ≡ false
-  by_test false ih = ih k
-  by_test true ih = rw (node_net k a) (ih (k + 1))
+    by_test : (b : Bool) → ((i : ℕ) → has_name (net_name a) (names (node_nets ss i ls)) ≡ false)
+        → has_name (net_name a) (names (decl_nets (cond b (NetDecl (wire (side_width ss l.side) (node_name k)) ∷ []) [] ++ node_decls ss (cond b (k + 1) k) ls))) ≡ false
+    by_test false ih = ih k
+    by_test true ih = rw (node_net k a) (ih (k + 1))
 
 nodes_below_named : (ss : List Signal) (j k : ℕ) (ls : List Line) → j < k → has_name (node_name j) (names (node_nets ss k ls)) ≡ false
 nodes_below_named ss j k [] lt = refl
 nodes_below_named ss j k (l ∷ ls) lt = by_test (has_node l.side) (λ i. nodes_below_named ss j i ls)
   where
-  by_test : (b : Bool) → ((i : ℕ) → j < i → has_name (node_name j) (names (node_nets ss i ls)) ≡ false)
-      → has_name (node_name j) (names (decl_nets (cond b (NetDecl (wire (side_width ss l.side) (node_name k)) ∷ []) [] ++ node_decls ss (cond b (k + 1) k) ls))) ≡ false
-  by_test false ih = ih k lt
-  by_test true ih = rw (node_other k j (λ e. omega (arith, e, lt))) (ih (k + 1) (omega arith))
+    by_test : (b : Bool) → ((i : ℕ) → j < i → has_name (node_name j) (names (node_nets ss i ls)) ≡ false)
+        → has_name (node_name j) (names (decl_nets (cond b (NetDecl (wire (side_width ss l.side) (node_name k)) ∷ []) [] ++ node_decls ss (cond b (k + 1) k) ls))) ≡ false
+    by_test false ih = ih k lt
+    by_test true ih = rw (node_other k j (λ e. omega (arith, e, lt))) (ih (k + 1) (omega arith))
 
 nodes_distinct : (ss : List Signal) (k : ℕ) (ls : List Line) → is_distinct (names (node_nets ss k ls)) ≡ true
 nodes_distinct ss k [] = refl
 nodes_distinct ss k (l ∷ ls) = by_test (has_node l.side) (λ i. nodes_distinct ss i ls)
   where
-  by_test : (b : Bool) → ((i : ℕ) → is_distinct (names (node_nets ss i ls)) ≡ true)
-      → is_distinct (names (decl_nets (cond b (NetDecl (wire (side_width ss l.side) (node_name k)) ∷ []) [] ++ node_decls ss (cond b (k + 1) k) ls))) ≡ true
-  by_test false ih = ih k
-  by_test true ih = rw (nodes_below_named ss k (k + 1) ls (omega arith)) (ih (k + 1))
+    by_test : (b : Bool) → ((i : ℕ) → is_distinct (names (node_nets ss i ls)) ≡ true)
+        → is_distinct (names (decl_nets (cond b (NetDecl (wire (side_width ss l.side) (node_name k)) ∷ []) [] ++ node_decls ss (cond b (k + 1) k) ls))) ≡ true
+    by_test false ih = ih k
+    by_test true ih = rw (nodes_below_named ss k (k + 1) ls (omega arith)) (ih (k + 1))
 
 letters_not_named : (a : ℕ) (L : List Line) (ss : List Signal) (more : List VNet) → are_signals ss ≡ true → width_of ss a ≡ 0 → has_name (net_name a) (names more) ≡ false
     → has_name (net_name a) (names (port_nets L ss ++ more)) ≡ false

@@ -12,6 +12,7 @@ use Rattle.lx_form.specs.Form.{is_class_name, has_signals, are_signals, are_line
 use Rattle.lx_translate.specs.FormCircuit.{place_of, letter_at, circuit_of}
 use Rattle.lx_translate.specs.FormModule.{net_name, port_of, module_of, names_of}
 use Rattle.lx_translate.specs.Translation.{IsTranslationLaw}
+use Rattle.lx_translate.proofs.Lawful.{lawful}
 use Rattle.lx_translate.proofs.Nets.{declared_once, memories_none}
 use Rattle.lx_translate.proofs.Assigns.{AllMade, all_made, all_nets_fit, all_assigns_fit}
 use Rattle.lx_translate.proofs.Loop.{no_loop}
@@ -62,6 +63,7 @@ translation f form =
     let both = and_parts (are_signals f.signals) (are_lines f.signals f.lines) made.1 in
     let meaning = cycle_meaning f both.0 both.1 in
     record {
+      lawful = lawful f form;
       meaning = meaning;
       ports = ports_are f f.signals both.1 (all_made f.signals both.0);
       agrees = agrees (circuit_of f) (module_of f) (names_of f) (keeps_shapes f both.0) (has_order f both.1) meaning (follows f both.0 both.1 meaning);

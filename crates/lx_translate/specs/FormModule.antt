@@ -97,7 +97,7 @@ module_from ss ls = record {
   decls = node_decls ss 0 ls;
   inits = [];
   assigns = node_assigns 0 ls ++ signal_assigns ls ss;
-  always = []
+  always = [];
 }
 
 abbrev pub module_of : File → VModule

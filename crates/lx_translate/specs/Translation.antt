@@ -2,6 +2,7 @@
 use Rattle.std.specs.Prelude.{◌≡◌, ℕ, List, IsTrue}
 use Rattle.lx_vtext.specs.Tree.{VModule}
 use Rattle.lx_vtext.specs.Printed.{module_text}
+use Rattle.lx_vtext.specs.Fits.{IsModule}
 use Rattle.lx_vmeaning.specs.Cycle.{HasCycleMeaning}
 use Rattle.lx_agree.specs.Agreement.{Agrees, HasPorts}
 use Rattle.lx_form.specs.declared.file.File.{File}
@@ -9,9 +10,10 @@ use Rattle.lx_form.specs.Form.{is_form}
 use Rattle.lx_translate.specs.FormCircuit.{circuit_of}
 use Rattle.lx_translate.specs.FormModule.{module_of, names_of}
 
--- A module gives what a description means: it has a cycle meaning, its ports are the description's in their order,
+-- A module gives what a description means: it has a text, which is no other module's, and a cycle meaning, its ports are the description's in their order,
 -- and each signal has the number of its net after every list of steps.
 pub record IsModuleOf (f : File) (m : VModule) : Type 0 where
+  pub lawful : IsModule m
   pub meaning : HasCycleMeaning m
   pub ports : HasPorts (circuit_of f) (names_of f) m
   pub agrees : Agrees (circuit_of f) m (names_of f)
