@@ -45,7 +45,7 @@ binary_value Lt x y = flag (int_lt x y)
 binary_value Le x y = flag (not (int_lt y x))
 binary_value Gt x y = flag (int_lt y x)
 binary_value Ge x y = flag (not (int_lt x y))
-binary_value _ x y = x
+binary_value _ x y = pos 0
 
 abbrev pub mux_value : ℤ → ℤ → ℤ → ℤ
 mux_value c x y = if is_zero c then y else x
