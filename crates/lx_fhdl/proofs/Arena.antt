@@ -23,7 +23,7 @@ use Rattle.lx_fhdl.proofs.Fitting.{fits_joined, fits_copies, fits_field, fits_mu
 use Rattle.lx_fhdl.proofs.Operators.{binary_fits, binary_small, unary_fits, unary_some, joined_some, not_wide, none_left, none_right, by_none}
 
 -- a fact of all lower places is one of each child
-each_place : (P : ℕ → Type 0) (n : ℕ) (is : List ExprId) → ((k : ℕ) → k < n → P k) → all_below n is ≡ true → EachPlace P is
+pub each_place : (P : ℕ → Type 0) (n : ℕ) (is : List ExprId) → ((k : ℕ) → k < n → P k) → all_below n is ≡ true → EachPlace P is
 each_place P n [] h e = tt
 each_place P n (i ∷ is) h e =
     let p = and_parts (nat_lt i.place n) (all_below n is) e in
@@ -104,7 +104,7 @@ made_small own hs vals (Mux cond so other) e p f s =
 made_small own hs vals (Cat parts) e p f s = record { some = sum_some hs parts p s; most = not_wide (bits_sum (shapes_at hs parts)) e }
 made_small own hs vals (Pick items index) e p f s = record {
   some = widest_some hs (some_signed (shapes_at hs items)) items p s.0;
-  most = not_wide (pick_shape (shapes_at hs items)).bits (none_right (index_fault (shape_at hs index.place)) (too_wide (pick_shape (shapes_at hs items)).bits) e)
+  most = not_wide (pick_shape (shapes_at hs items)).bits (none_right (index_fault (shape_at hs index.place)) (too_wide (pick_shape (shapes_at hs items)).bits) e);
 }
 made_small own hs vals (Replicate of count) e p f s =
     let q = replicate_small (shape_at hs of.place) count s e in
@@ -136,12 +136,13 @@ pub small_below : (xs : List Expr) (hs : List Shape) (vals : List ℤ) → EachL
 small_below xs hs vals l s zero h k g = absurd (omega arith)
 small_below xs hs vals l s (suc n) h k g =
     elim (cases_lt k n) [
-      inl q ↦ small_below xs hs vals l s n (omega arith) k q
-    | inr q ↦
-        let e : n ≡ k = omega arith in
-        let w : n < length xs = omega arith in
-        let (x, found) = node_there xs n w in
-        subst (λ (j : ℕ). IsSmall (shape_at hs j)) e (small_of xs hs vals l s n (λ j i. small_below xs hs vals l s n (omega arith) j i) x found) ]
+      | inl q ↦ small_below xs hs vals l s n (omega arith) k q
+      | inr q ↦
+          let e : n ≡ k = omega arith in
+          let w : n < length xs = omega arith in
+          let (x, found) = node_there xs n w in
+          subst (λ (j : ℕ). IsSmall (shape_at hs j)) e (small_of xs hs vals l s n (λ j i. small_below xs hs vals l s n (omega arith) j i) x found)
+    ]
 
 -- the children of a node are known, where their values fit
 pub children_known : (xs : List Expr) (hs : List Shape) (vals known : List ℤ) → EachLower expr_below xs → IsShaped xs hs vals → length known ≡ length xs → (n : ℕ) (x : Expr) → n < length xs → slice_get xs n ≡ Some x → EachChild (IsFit hs known) x → EachChild (IsKnown hs known) x

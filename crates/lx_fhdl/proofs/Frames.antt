@@ -56,19 +56,21 @@ pub values_kept : (xs : List Expr) (hs : List Shape) (vals into : List ℤ) (n :
 values_kept xs hs vals into n v l w old new k h x e =
     let moved : (j : ℕ) → j ≤ n → ((i : ℕ) → i < j → value_at into i ≡ value_at (set into n v) i) = λ j g i b. sym (below_same into n v i (omega arith)) in
     elim (cases_lt k n) [
-      inl q ↦
-        below_same into n v k q ∙ old k q x e ∙ value_same hs (value_at vals) into (set into n v) k x (moved k (omega arith)) (lower_at xs l k x e)
-    | inr q ↦
-        let is : n ≡ k = omega arith in
-        let at : slice_get xs n ≡ Some x = ap (λ (j : ℕ). slice_get xs j) is ∙ e in
-        ap (λ (j : ℕ). value_at (set into n v) j) (sym is) ∙ here_same into n v w ∙ new x at
-        ∙ value_same hs (value_at vals) into (set into n v) n x (moved n (omega arith)) (lower_at xs l n x at) ]
+      | inl q ↦
+          below_same into n v k q ∙ old k q x e ∙ value_same hs (value_at vals) into (set into n v) k x (moved k (omega arith)) (lower_at xs l k x e)
+      | inr q ↦
+          let is : n ≡ k = omega arith in
+          let at : slice_get xs n ≡ Some x = ap (λ (j : ℕ). slice_get xs j) is ∙ e in
+          ap (λ (j : ℕ). value_at (set into n v) j) (sym is) ∙ here_same into n v w ∙ new x at
+          ∙ value_same hs (value_at vals) into (set into n v) n x (moved n (omega arith)) (lower_at xs l n x at)
+    ]
 
 pub fits_kept : (hs : List Shape) (into : List ℤ) (n : ℕ) (v : ℤ) → n < length into → ((k : ℕ) → k < n → IsFit hs into k) → Fits (shape_at hs n) v → (k : ℕ) → k < n + 1 → IsFit hs (set into n v) k
 fits_kept hs into n v w old new k h =
     elim (cases_lt k n) [
-      inl q ↦ let P : ℤ → Type 0 = λ z. Fits (shape_at hs k) z in subst P (sym (below_same into n v k q)) (old k q)
-    | inr q ↦
-        let is : n ≡ k = omega arith in
-        let P : ℤ → Type 0 = λ z. Fits (shape_at hs n) z in
-        subst (λ (j : ℕ). IsFit hs (set into n v) j) is (subst P (sym (here_same into n v w)) new) ]
+      | inl q ↦ let P : ℤ → Type 0 = λ z. Fits (shape_at hs k) z in subst P (sym (below_same into n v k q)) (old k q)
+      | inr q ↦
+          let is : n ≡ k = omega arith in
+          let P : ℤ → Type 0 = λ z. Fits (shape_at hs n) z in
+          subst (λ (j : ℕ). IsFit hs (set into n v) j) is (subst P (sym (here_same into n v w)) new)
+    ]

@@ -94,8 +94,9 @@ far (negsuc a) k f h =
 capped : (x : ℤ) (k : ℕ) → FitsSigned w128 x → floor_div x (2 ^ min k 127) ≡ floor_div x (2 ^ k)
 capped x k f =
     elim (cases_lt k 127) [
-      inl h ↦ let e : min k 127 ≡ k = omega arith in ap (λ (j : ℕ). floor_div x (2 ^ j)) e
-    | inr h ↦ let e : min k 127 ≡ 127 = omega arith in ap (λ (j : ℕ). floor_div x (2 ^ j)) e ∙ sym (far x k f h) ]
+      | inl h ↦ let e : min k 127 ≡ k = omega arith in ap (λ (j : ℕ). floor_div x (2 ^ j)) e
+      | inr h ↦ let e : min k 127 ≡ 127 = omega arith in ap (λ (j : ℕ). floor_div x (2 ^ j)) e ∙ sym (far x k f h)
+    ]
 
 shr_is : (z : ℤ) (m : ℕ) → shr_z z m ≡ floor_div z m
 shr_is (pos a) m = refl

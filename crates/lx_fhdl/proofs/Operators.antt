@@ -89,7 +89,7 @@ binary_small Sub a b p q e = joined_small a b (binary_shape Sub a b) e (omega ar
 binary_small Mul a b p q e = joined_small a b (binary_shape Mul a b) e (omega (arith, p.some))
 binary_small Shl a b p q e = record {
   some = omega (arith, p.some, pow_pos b.bits);
-  most = not_wide (binary_shape Shl a b).bits (none_right (index_fault b) (too_wide (binary_shape Shl a b).bits) e)
+  most = not_wide (binary_shape Shl a b).bits (none_right (index_fault b) (too_wide (binary_shape Shl a b).bits) e);
 }
 binary_small Shr a b p q e = p
 binary_small And a b p q e = joined_small a b (joined a b) e (joined_some a b p)

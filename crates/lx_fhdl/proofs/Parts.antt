@@ -34,9 +34,9 @@ next_value hs known xs k d pattern low own total h o e =
     let n = (shape_at hs (get_or xs k d).place).bits in
     let rest = cat_pattern (shapes_at hs (drop (k + 1) xs)) (values_at known (drop (k + 1) xs)) in
     let s : cat_pattern (shapes_at hs (drop k xs)) (values_at known (drop k xs)) ≡ modulo (value_at known (get_or xs k d).place) (2 ^ n) + 2 ^ n * rest =
-        ap (λ (ys : List ExprId). cat_pattern (shapes_at hs ys) (values_at known ys)) (next_part xs k d h) in
+    ap (λ (ys : List ExprId). cat_pattern (shapes_at hs ys) (values_at known ys)) (next_part xs k d h) in
     let t : 2 ^ low * cat_pattern (shapes_at hs (drop k xs)) (values_at known (drop k xs)) ≡ 2 ^ low * (own + 2 ^ n * rest) =
-        ap (λ (z : ℕ). 2 ^ low * z) (s ∙ ap (λ (z : ℕ). z + 2 ^ n * rest) (sym o)) in
+    ap (λ (z : ℕ). 2 ^ low * z) (s ∙ ap (λ (z : ℕ). z + 2 ^ n * rest) (sym o)) in
     let p : 2 ^ (low + n) * rest ≡ 2 ^ low * 2 ^ n * rest = ap (λ (z : ℕ). z * rest) (pow-add 2 low n) in
     omega (arith, t, p, e)
 
@@ -45,10 +45,11 @@ pub beside_is : (pattern low above bits : ℕ) → pattern < 2 ^ low → above <
     → (pattern + (1 * 2 ^ low) % 2 ^ 128 * above ≡ pattern + 2 ^ low * above) × (pattern + 2 ^ low * above < 2 ^ (low + bits)) × (2 ^ (low + bits) ≤ 2 ^ 127)
 beside_is pattern low above bits p q h =
     let l : low < 128 = omega arith in
-    let two : 0 < 2 = omega arith in
-    ( ap (λ (k : ℕ). pattern + k * above) (one_shl low 128 l)
-    , omega (arith, mul-add-lt above (2 ^ low) pattern (2 ^ bits) q p, pow-add 2 low bits)
-    , pow-le-pow_right two h )
+    let two : 0 < 2 = omega arith in (
+      ap (λ (k : ℕ). pattern + k * above) (one_shl low 128 l),
+      omega (arith, mul-add-lt above (2 ^ low) pattern (2 ^ bits) q p, pow-add 2 low bits),
+      pow-le-pow_right two h,
+    )
 
 pub nth_is : (known : List ℤ) (x : ExprId) (xs : List ExprId) (z : ℤ) (n : ℕ) (d : ExprId) → nth_or_last z (values_at known (x ∷ xs)) n ≡ value_at known (get_or (x ∷ xs) (min n (length xs)) d).place
 nth_is known x xs z zero d = ap (λ (k : ℕ). value_at known (get_or (x ∷ xs) k d).place) (sym (min-none (length xs)))
@@ -79,11 +80,12 @@ pub part_step : (hs : List Shape) (known : List ℤ) (xs : List ExprId) (k : ℕ
     → low + bits_sum (shapes_at hs (drop k xs)) ≡ bits
     → pattern + 2 ^ low * cat_pattern (shapes_at hs (drop k xs)) (values_at known (drop k xs)) ≡ total
     → (low + a.bits + bits_sum (shapes_at hs (drop (k + 1) xs)) ≡ bits)
-      × (new + 2 ^ (low + a.bits) * cat_pattern (shapes_at hs (drop (k + 1) xs)) (values_at known (drop (k + 1) xs)) ≡ total)
+    × (new + 2 ^ (low + a.bits) * cat_pattern (shapes_at hs (drop (k + 1) xs)) (values_at known (drop (k + 1) xs)) ≡ total)
 part_step hs known xs k d low pattern own new bits total a v h e f g o n b t =
     let own_is : own ≡ modulo (value_at known (get_or xs k d).place) (2 ^ (shape_at hs (get_or xs k d).place).bits) =
-        o ∙ ap (λ (z : ℤ). modulo z (2 ^ a.bits)) (to_z-of_z w128 v g ∙ f) ∙ ap (λ (s : Shape). modulo (value_at known (get_or xs k d).place) (2 ^ s.bits)) e in
-    ( ap (λ (s : Shape). low + s.bits + bits_sum (shapes_at hs (drop (k + 1) xs))) e ∙ next_bits hs xs k d low bits h b
-    , ap (λ (p : ℕ). p + 2 ^ (low + a.bits) * cat_pattern (shapes_at hs (drop (k + 1) xs)) (values_at known (drop (k + 1) xs))) n
-      ∙ ap (λ (s : Shape). pattern + 2 ^ low * own + 2 ^ (low + s.bits) * cat_pattern (shapes_at hs (drop (k + 1) xs)) (values_at known (drop (k + 1) xs))) e
-      ∙ next_value hs known xs k d pattern low own total h own_is t )
+    o ∙ ap (λ (z : ℤ). modulo z (2 ^ a.bits)) (to_z-of_z w128 v g ∙ f) ∙ ap (λ (s : Shape). modulo (value_at known (get_or xs k d).place) (2 ^ s.bits)) e in (
+      ap (λ (s : Shape). low + s.bits + bits_sum (shapes_at hs (drop (k + 1) xs))) e ∙ next_bits hs xs k d low bits h b,
+      ap (λ (p : ℕ). p + 2 ^ (low + a.bits) * cat_pattern (shapes_at hs (drop (k + 1) xs)) (values_at known (drop (k + 1) xs))) n
+          ∙ ap (λ (s : Shape). pattern + 2 ^ low * own + 2 ^ (low + s.bits) * cat_pattern (shapes_at hs (drop (k + 1) xs)) (values_at known (drop (k + 1) xs))) e
+          ∙ next_value hs known xs k d pattern low own total h own_is t,
+    )

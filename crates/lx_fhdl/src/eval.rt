@@ -7,14 +7,13 @@ ghost use Rattle.lx_circuit.specs.Values.{unary_value, binary_value, mux_value, 
 ghost use Rattle.lx_fhdl.specs.declared.exprs.Expr.{Expr};
 ghost use Rattle.lx_fhdl.specs.Nodes.{EachChild, EachPlace, IsFit, IsKnown, IsNode, IsShaped, IsSmall, IsValued, node_value, shape_at, shapes_at, value_at, values_at};
 
+use crate::exprs::{Expr, ExprId, Exprs, SigId};
+use crate::steps::Steps;
 use lx_arena::Id;
 use lx_num::{Shape, field, wrap};
 use lx_tables::Op;
 use std::marker::PhantomData;
 use std::sync::ledger::Ledger;
-
-use crate::exprs::{Expr, ExprId, Exprs, SigId};
-use crate::steps::Steps;
 
 /// The shape of a node.
 pub(crate) fn shape_of(shapes: &[Shape], id: ExprId) -> Shape

@@ -6,7 +6,7 @@ pub mod eval;
 pub mod exprs;
 pub mod steps;
 
-pub use design::Signal;
+pub use design::{Arm, Branch, Design, Domain, Signal, Stmt, SyncPart, Target};
 pub use eval::{eval_into, eval_node};
 pub use exprs::{Expr, ExprId, Exprs, InExprs, SigId};
 pub use steps::Steps;

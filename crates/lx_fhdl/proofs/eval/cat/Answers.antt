@@ -5,7 +5,6 @@ use Rattle.lx_fhdl.specs.Nodes.{EachPlace, IsKnown}
 use Rattle.lx_fhdl.proofs.Parts.{each_at, part_step}
 use Rattle.lx_fhdl.proofs.eval.cat.Goals as goal
 
-
 pub shape_of-bits-requires-in-loop-part : goal.shape_of-bits-requires-in-loop-part
 shape_of-bits-requires-in-loop-part c = (each_at (IsKnown c.args.shapes.now c.args.known.now) c.args.parts.now c.loop-part.part-index _ c.requires.known c.loop-part-test.true).has_shape
 
@@ -23,7 +22,7 @@ low_bits-own-requires-clause-most c =
 pub loop-part-preserved : goal.loop-part-preserved
 loop-part-preserved c =
     let e = part_step c.args.shapes.now c.args.known.now c.args.parts.now c.loop-part.part-index _ c.loop-part.low c.loop-part.pattern c.low_bits-own.result c.beside-pattern.result _ _ c.shape_of-bits.result c.value_of.result
-        c.loop-part-test.true c.shape_of-bits.ensures c.value_of.ensures (record { sfits = c.value_of.type_inv }) c.low_bits-own.ensures.value c.beside-pattern.ensures.value c.loop-part.invariant.bits c.loop-part.invariant.value in
+    c.loop-part-test.true c.shape_of-bits.ensures c.value_of.ensures (record { sfits = c.value_of.type_inv }) c.low_bits-own.ensures.value c.beside-pattern.ensures.value c.loop-part.invariant.bits c.loop-part.invariant.value in
     record { bits = e.0; value = e.1; below = c.beside-pattern.ensures.below }
 
 pub number-requires : goal.number-requires

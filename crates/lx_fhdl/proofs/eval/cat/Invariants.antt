@@ -8,5 +8,5 @@ abbrev pub invariant-loop-part : goal.invariant-loop-part
 invariant-loop-part l = record {
   bits : l.low + bits_sum (shapes_at l.shapes (drop l.part-index l.parts)) ≡ bits_sum (shapes_at l.shapes l.parts);
   value : l.pattern + 2 ^ l.low * cat_pattern (shapes_at l.shapes (drop l.part-index l.parts)) (values_at l.known (drop l.part-index l.parts)) ≡ cat_pattern (shapes_at l.shapes l.parts) (values_at l.known l.parts);
-  below : l.pattern < 2 ^ l.low
+  below : l.pattern < 2 ^ l.low;
 }

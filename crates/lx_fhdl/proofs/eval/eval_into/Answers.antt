@@ -21,5 +21,5 @@ loop-place-preserved g c =
     record {
       values = values_kept c.args.exprs.now c.args.shapes.now c.args.vals.now c.loop-place.into c.loop-place.place (to_z w128 (of_z w128 c.eval_node.result)) c.lower.ensures within c.loop-place.invariant.values (λ x e. same ∙ c.eval_node.ensures.value x e);
       fits = fits_kept c.args.shapes.now c.loop-place.into c.loop-place.place (to_z w128 (of_z w128 c.eval_node.result)) within c.loop-place.invariant.fits (subst P (sym same) c.eval_node.ensures.fits);
-      cost = omega (arith, c.eval_node.ensures.cost)
+      cost = omega (arith, c.eval_node.ensures.cost);
     }

@@ -12,7 +12,7 @@ value_of-requires c = each_at (λ k. k < length c.args.known.now) c.args.items.n
 pub returns : goal.returns
 returns c =
     let e : c.place_of-place.result ≡ min (count_of c.args.index) (length c.args.items.now - 1) =
-        c.place_of-place.ensures ∙ ap (λ (z : ℤ). min (count_of z) (length c.args.items.now - 1)) (to_z-of_z w128 c.args.index c.ranges.index) in
+    c.place_of-place.ensures ∙ ap (λ (z : ℤ). min (count_of z) (length c.args.items.now - 1)) (to_z-of_z w128 c.args.index c.ranges.index) in
     to_z-of_z w128 c.value_of.result (record { sfits = c.value_of.type_inv })
     ∙ c.value_of.ensures
     ∙ sym (pick_is c.args.known.now c.args.items.now c.args.index c.place_of-place.result _ c.requires.some e)

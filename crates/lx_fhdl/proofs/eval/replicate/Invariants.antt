@@ -6,5 +6,5 @@ abbrev pub invariant-loop-made : goal.invariant-loop-made
 invariant-loop-made l = record {
   width : l.width ≡ l.made * l.a.bits;
   value : l.pattern ≡ copies l.made l.a.bits l.copy;
-  below : l.pattern < 2 ^ l.width
+  below : l.pattern < 2 ^ l.width;
 }
