@@ -1,0 +1,7 @@
+pub mod Arena
+pub mod Fitting
+pub mod Frames
+pub mod Machine
+pub mod Operators
+pub mod Parts
+pub mod Trees
