@@ -5,4 +5,4 @@ pub mod filling;
 pub mod spots;
 
 pub use filling::{exhaustion_law, fill, free_law};
-pub use spots::{Place, Spot, rounded_size};
+pub use spots::{Place, Spot, is_apart, is_inside, rounded_size, wanted};

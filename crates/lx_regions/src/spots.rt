@@ -1,7 +1,9 @@
 //! Regions with their places, and the two windows of the address space.
 
-ghost use Rattle.std.specs.Prelude.{◌≡◌, ◌≤◌};
+ghost use Rattle.std.specs.Prelude.{◌≡◌, ◌+◌, ◌^◌, ◌<◌, ◌≤◌};
 ghost use Rattle.lx_regions.specs.Rounded.{rounded};
+ghost use Rattle.lx_regions.specs.Free.{wanted};
+ghost use Rattle.lx_regions.specs.Space.{window_start, is_inside, is_apart};
 
 /// Where a region is.
 #[derive(Clone, Copy)]
@@ -30,9 +32,50 @@ pub fn rounded_size(size: u64) -> u64
     size.max(4).next_power_of_two()
 }
 
+/// The bytes of a window.
+pub const WINDOW: u64 = 0x8000_0000;
+
+/// The first byte of a window.
+pub fn start_of(cached: bool) -> u64
+    ensures { result ≡ window_start cached }
+{
+    if cached { 0 } else { WINDOW }
+}
+
+/// Whether the bytes from an origin on lie in a window.
+#[tactic(auto, unfolding(crate::specs::Space::is_inside))]
+pub fn is_inside(cached: bool, origin: u64, size: u64) -> bool
+    requires { origin + size ≤ 4294967296 }
+    ensures { result ≡ is_inside cached origin size }
+{
+    let start = start_of(cached);
+    start <= origin && origin + size <= start + WINDOW
+}
+
+/// Whether two parts of the address space share no byte.
+#[tactic(auto, unfolding(crate::specs::Space::is_apart))]
+pub fn is_apart(left: u64, left_size: u64, right: u64, right_size: u64) -> bool
+    requires left_fits { left + left_size < 2 ^ 64 }
+    requires right_fits { right + right_size < 2 ^ 64 }
+    ensures { result ≡ is_apart left left_size right right_size }
+{
+    left + left_size <= right || right + right_size <= left
+}
+
+/// How many regions of this window and size wish for a place.
+pub fn wanted(spots: &[Spot], cached: bool, size: u64) -> usize
+    ensures { result ≡ wanted cached size spots.now }
+{
+    spots
+        .iter()
+        .filter(|spot| spot.is_wanted(cached, size))
+        .count()
+}
+
 impl Spot {
-    ghost use Rattle.std.specs.Prelude.{◌<◌, ◌↔◌, IsTrue};
+    ghost use Rattle.std.specs.Prelude.{◌↔◌, IsTrue};
     ghost use Rattle.lx_regions.specs.Space.{is_open, origin_of};
+    ghost use Rattle.lx_regions.specs.Free.{is_wanted};
     ghost use Rattle.lx_regions.specs.Least.{rank};
 
     /// Whether it has no place yet.
@@ -43,6 +86,13 @@ impl Spot {
             Place::Open => true,
             _ => false,
         }
+    }
+
+    // Whether it is of this window and size and has no place yet.
+    fn is_wanted(&self, cached: bool, size: u64) -> bool
+        ensures { result ≡ is_wanted cached size self.now }
+    {
+        self.is_open() && self.cached == cached && self.size == size
     }
 
     /// The address of its first byte, where it has a place.

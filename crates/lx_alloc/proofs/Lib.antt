@@ -1,0 +1,6 @@
+pub mod Judging
+pub mod Stated
+pub mod Legal
+pub mod Lowest
+pub mod Stand
+pub mod Tells

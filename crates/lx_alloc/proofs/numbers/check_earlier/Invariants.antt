@@ -1,0 +1,7 @@
+use Rattle.std.proofs.Common.{◌≡◌, [], take}
+use Rattle.std.specs.Prelude.{flat_map}
+use Rattle.lx_alloc.specs.Numbers.{taken_faults}
+use Rattle.lx_alloc.proofs.numbers.check_earlier.Given as goal
+
+abbrev pub invariant-loop-earlier : goal.invariant-loop-earlier
+invariant-loop-earlier l = flat_map (taken_faults l.counted l.later) (take l.earlier-index l.before) ≡ []

@@ -1,0 +1,7 @@
+use Rattle.std.proofs.Common.{◌≡◌, [], take}
+use Rattle.std.specs.Prelude.{flat_map}
+use Rattle.lx_alloc.specs.Numbers.{event_faults}
+use Rattle.lx_alloc.proofs.numbers.check_events.Given as goal
+
+abbrev pub invariant-loop-fix : goal.invariant-loop-fix
+invariant-loop-fix l = flat_map (event_faults l.managers) (take l.fix-index l.fixes) ≡ []
