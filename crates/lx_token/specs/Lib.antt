@@ -6,3 +6,4 @@ pub mod Turns
 pub mod Pieces
 pub mod Lines
 pub mod Tokens
+pub mod Machine

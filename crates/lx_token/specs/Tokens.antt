@@ -35,16 +35,20 @@ pub record Nested : Type 0 where
 abbrev pub dedents : ℕ → ℕ → ℕ → List Token
 dedents n place line = replicate n (token_at kind.Dedent place 0 line)
 
--- a line of this width that begins at this place and line: more than the innermost level opens one; less closes each
--- that is more, and the innermost one that is left is as wide as the line
+-- a line that isn't wider than the innermost level closes each that is wider; the innermost one that is left is as wide
+unfoldable pub closed : List ℕ → ℕ → ℕ → ℕ → Result Nested Fault
+closed levels width place line =
+    let left = levels_within width levels in
+    if innermost left == width then Ok (record { tokens = dedents (length levels - length left) place line; levels = left })
+    else Err (fault_at line fault.BadIndent)
+
+-- a line of this width that begins at this place and line; one that is wider than the innermost level opens one
 unfoldable pub nested : List ℕ → ℕ → ℕ → ℕ → Result Nested Fault
 nested levels width place line =
     if nat_lt (innermost levels) width then
       (if nat_lt (length levels) most_levels then Ok (record { tokens = token_at kind.Indent place 0 line ∷ []; levels = levels ++ width ∷ [] })
       else Err (fault_at line fault.TooDeep))
-    else (let left = levels_within width levels in
-      if innermost left == width then Ok (record { tokens = dedents (length levels - length left) place line; levels = left })
-      else Err (fault_at line fault.BadIndent))
+    else closed levels width place line
 
 -- a tab among the leading blanks stands before all else that is wrong with them
 abbrev pub indented : Option ℕ → List ℕ → ℕ → ℕ → ℕ → Result Nested Fault

@@ -1,4 +1,12 @@
-//! A token, and what kinds there are.
+//! The tokens of a text, and what kinds there are.
+
+ghost use Rattle.lx_token.specs.Tokens.{Tokenized};
+
+use crate::lines::Lines;
+use crate::pieces::fault_at;
+use crate::reader::{last_newline, read_pieces};
+use lx_text::{Kind, List, Refusal};
+use std::alloc::Global;
 
 /// What a token is. Which word or operator it is, its slice of the source tells.
 #[derive(Clone, Copy, Debug, PartialEq, Eq)]
@@ -21,4 +29,26 @@ pub struct Token {
     pub start: u32,
     pub end: u32,
     pub line: u32,
+}
+
+// So many bytes may be in a text.
+const MOST_BYTES: usize = 1_048_576;
+
+/// The tokens of a text; or the fault in it that stands first, with its line; or TooLong, of line 0, where it has more
+/// than 1,048,576 bytes.
+#[tactic(auto, unfolding(crate::specs::Tokens::tokens_of))]
+pub fn tokens(alloc: Global, source: &[u8]) -> Result<List<Token>, Refusal>
+    ensures { Tokenized source.now result }
+{
+    if source.len() > MOST_BYTES {
+        return Err(Refusal::Fault(fault_at(0, Kind::TooLong)));
+    }
+    let mut lines = Lines::new(alloc);
+    if let Err(refusal) = read_pieces(source, &mut lines) {
+        return Err(refusal);
+    }
+    match lines.finish(last_newline(source)) {
+        Ok(tokens) => Ok(tokens),
+        Err(_) => Err(Refusal::NoMemory),
+    }
 }
