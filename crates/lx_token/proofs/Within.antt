@@ -33,6 +33,7 @@ behind_by base cs false h = omega arith
 
 mutual
   unfolding more_digits digits_behind
+
   more_digits-within : (base : ℕ) (cs : List ℕ) → more_digits base cs ≤ length cs
   more_digits-within base [] = omega arith
   more_digits-within base (c ∷ cs) = more_by base cs (is_digit_in base c) (c == 95) (more_digits-within base cs) (digits_behind-within base cs)
@@ -134,6 +135,7 @@ escaped_by long quote c cs false h = let f : 2 + length cs ≡ 1 + suc (length c
 
 mutual
   unfolding quoted escaped
+
   pub quoted-within : (long : Bool) (quote : ℕ) (bytes : List ℕ) → EndsWithin (quoted long quote bytes) (length bytes)
   quoted-within long quote [] = tt
   quoted-within long quote (c ∷ cs) =

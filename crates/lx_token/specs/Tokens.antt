@@ -46,8 +46,8 @@ closed levels width place line =
 unfoldable pub nested : List ℕ → ℕ → ℕ → ℕ → Result Nested Fault
 nested levels width place line =
     if nat_lt (innermost levels) width then
-      (if nat_lt (length levels) most_levels then Ok (record { tokens = token_at kind.Indent place 0 line ∷ []; levels = levels ++ width ∷ [] })
-      else Err (fault_at line fault.TooDeep))
+    (if nat_lt (length levels) most_levels then Ok (record { tokens = token_at kind.Indent place 0 line ∷ []; levels = levels ++ width ∷ [] })
+    else Err (fault_at line fault.TooDeep))
     else closed levels width place line
 
 -- a tab among the leading blanks stands before all else that is wrong with them

@@ -5,7 +5,10 @@ ghost use Rattle.lx_token.specs.Bytes.{is_operator_pair, begins};
 ghost use Rattle.lx_token.specs.Turns.{IsAtMost};
 ghost use Rattle.lx_token.specs.Lexemes.{lexeme_of, text_lexeme, word_lexeme, number_lexeme, quoted_lexeme, operator_lexeme, joint_lexeme, return_lexeme, IsWithin};
 
-use crate::bytes::{begins_line_end, begins_with_feed, begins_with_name_byte, comment_len, is_closing, is_digit, is_letter, is_opening, is_operator, is_operator_pair, name_len};
+use crate::bytes::{
+    begins_line_end, begins_with_feed, begins_with_name_byte, comment_len, is_closing, is_digit,
+    is_letter, is_opening, is_operator, is_operator_pair, name_len,
+};
 use crate::numbers::{fits, number_at};
 use crate::quotes::{Ending, begins_with_two, end_of_text};
 use crate::tokens::TokenKind;

@@ -24,7 +24,12 @@ pub struct Lines {
 }
 
 // Adds so many Dedents.
-fn put_dedents(tokens: &mut List<Token>, count: usize, place: u32, line: u32) -> Result<(), NoMemory>
+fn put_dedents(
+    tokens: &mut List<Token>,
+    count: usize,
+    place: u32,
+    line: u32,
+) -> Result<(), NoMemory>
     ensures { OnOk result (tokens.new ≡ tokens.old ++ dedents count place line) }
 {
     for _ in 0..count {

@@ -88,7 +88,10 @@ pub(crate) fn put_in_place(depth: u32, lexeme: Lexeme, bytes: &[u8], at: u32, li
         Lexeme::Part(form, length) => form_piece(depth, form, at, length as u32, line),
         Lexeme::BadByte(length) => {
             let lines = line_ends(&bytes[..length]) as u32;
-            Piece::Wrong(line, fault_at(line + lines, Kind::BadByte(at + length as u32)))
+            Piece::Wrong(
+                line,
+                fault_at(line + lines, Kind::BadByte(at + length as u32)),
+            )
         }
         Lexeme::NumberRange => Piece::Wrong(line, fault_at(line, Kind::NumberRange)),
     }
@@ -101,13 +104,7 @@ fn opened_by(form: Form, depth: u32) -> u32
     ensures bound { result ≤ most_open }
 {
     match form {
-        Form::Open => {
-            if depth < MOST_OPEN {
-                depth + 1
-            } else {
-                depth
-            }
-        }
+        Form::Open => { if depth < MOST_OPEN { depth + 1 } else { depth } }
         Form::Close => depth.saturating_sub(1),
         _ => depth,
     }

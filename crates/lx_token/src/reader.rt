@@ -42,7 +42,12 @@ pub(crate) fn last_newline(source: &[u8]) -> Token
     requires { length source.now ≤ most_bytes }
     ensures { result ≡ last_newline source.now }
 {
-    token_at(TokenKind::Newline, source.len() as u32, 0, 1 + line_ends(source) as u32)
+    token_at(
+        TokenKind::Newline,
+        source.len() as u32,
+        0,
+        1 + line_ends(source) as u32,
+    )
 }
 
 // The bytes that the lexeme at the front takes.
