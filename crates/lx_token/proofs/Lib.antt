@@ -1,0 +1,5 @@
+pub mod Endings
+pub mod Values
+pub mod ByLines
+pub mod Cuts
+pub mod Within
