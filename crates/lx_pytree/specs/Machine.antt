@@ -52,8 +52,8 @@ cost (step.Close ∷ S) = cost S
 cost (step.Do (symbol.Token s) ∷ S) = 0
 cost (step.Do (symbol.Node r) ∷ S) = weight r
 cost (step.Do (symbol.One r) ∷ S) = weight r
-cost (step.Do (symbol.Maybe r) ∷ S) = weight r + cost S
-cost (step.Do (symbol.Many r) ∷ S) = weight r + cost S
+cost (step.Do (symbol.Maybe r) ∷ S) = max (weight r) (cost S)
+cost (step.Do (symbol.Many r) ∷ S) = max (weight r) (cost S)
 
 unfoldable pub opens_below : ℕ → List Open → Bool
 opens_below n [] = true
