@@ -1,5 +1,5 @@
 -- What each step does to the reader's state.
-use Rattle.std.proofs.Common.{ℕ, zero, suc, Bool, true, false, ◌≡◌, ◌<◌, ◌≤◌, ◌+◌, ◌-◌, ◌*◌, ◌&&◌, ◌++◌, ◌↔◌, max, nat_lt, nat_eq, List, [], ◌∷◌, length, reverse, map, drop, refl, sym, ap, ◌∙◌, subst, arith, slice_get, Option, Some, None, length-append, append_assoc, append-nil, add-one, drop-cons, get_or}
+use Rattle.std.proofs.Common.{ℕ, zero, suc, Bool, true, false, ◌≡◌, ◌<◌, ◌≤◌, ◌+◌, ◌-◌, ◌*◌, ◌&&◌, ◌++◌, ◌↔◌, max, nat_lt, nat_eq, List, [], ◌∷◌, length, reverse, map, take, drop, refl, sym, ap, ◌∙◌, subst, arith, slice_get, Option, Some, None, length-append, append_assoc, append-nil, add-one, drop-cons, get_or, Result, Ok, Err, option_to_list}
 use Rattle.std.proofs.lemmas.Bool.{ltb-true, lt-ltb}
 use Rattle.std.proofs.lemmas.List.{reverse-append, length-map}
 use Rattle.std.specs.Global.{Vec}
@@ -16,8 +16,15 @@ use Rattle.lx_grammar.specs.Numbers.{number}
 use Rattle.lx_grammar.specs.Grammar.{rules}
 use Rattle.lx_grammar.specs.Pick.{pick}
 use Rattle.lx_grammar.specs.Ahead.{view}
-use Rattle.lx_grammar.specs.Derives.{Tree, Parts, end, token, child, joined, wrap, label, takes}
-use Rattle.lx_grammar.specs.Reads.{Reads, done}
+use Rattle.lx_grammar.specs.Derives.{Tree, Parts, end, token, child, joined, wrap, label, takes, IsTreeOf}
+use Rattle.lx_grammar.specs.Reads.{Reads, done, opened}
+use Rattle.lx_grammar.specs.declared.grammar.Rule.{Rule}
+use Rattle.lx_grammar.specs.declared.grammar.Spot.TheVariants as spot
+use Rattle.lx_grammar.proofs.Guided.{file_read, read_file}
+use Rattle.lx_pytree.specs.declared.machine.Stop.{Stop}
+use Rattle.lx_pytree.specs.declared.machine.Stop.TheVariants as stop
+use Rattle.lx_pytree.specs.declared.machine.Turn.{Turn}
+use Rattle.lx_pytree.specs.declared.machine.Turn.TheVariants as turn
 use Rattle.lx_grammar.proofs.Checks.{left_of, right_of, both_of}
 use Rattle.lx_pytree.specs.declared.tree.PyNode.{PyNode}
 use Rattle.lx_pytree.specs.declared.tree.PyPart.{PyPart}
@@ -29,7 +36,7 @@ use Rattle.lx_pytree.specs.declared.machine.Machine.{Machine}
 use Rattle.lx_pytree.specs.Below.{parts_below}
 use Rattle.lx_pytree.specs.Trees.{plants, tree_at, IsHung}
 use Rattle.lx_pytree.specs.Weights.{weight}
-use Rattle.lx_pytree.specs.Machine.{upto, after, Gets, Ends, cost, opens_below, EndsIn, left, IsSound, Moves, IsWhole}
+use Rattle.lx_pytree.specs.Machine.{upto, after, Gets, Ends, cost, opens_below, EndsIn, left, IsSound, Moves, IsWhole, Turns, IsStart, IsReading}
 use Rattle.lx_pytree.proofs.Planting.{plants_same, parts_more, parts_push, plants_push_node, plants_push_token}
 use Rattle.lx_pytree.proofs.Falls.{cost_most, row_falls}
 use Rattle.lx_pytree.proofs.Steps.{joined_end, ends_map, gets_token, puts_token, not_token, no_token, Picked, gets_one, puts_one, not_one, gets_maybe, puts_maybe, gets_skip, puts_skip, gets_many, puts_many, gets_stop, puts_stop, Inner, gets_node, puts_node, not_node}
@@ -320,3 +327,104 @@ close_stuck items m S t eu eo lt h =
   let ro : reverse m.opens.items ≡ [] = ap (λ v. reverse v) eo in
   let ended : Ends f [] m.current.spot ps S (drop m.at items) t = subst (λ v. Ends f v m.current.spot ps S (drop m.at items) t) ro h in
   left_over items m.at lt (gets_nothing (upto S) ps (drop m.at items) [] ended.0 eu ended.1.0).rest
+
+-- the same, after the pushes of the code
+pub open_pushed : (items : List Item) (m : Machine) (p q : Vec Step) (os : Vec Open) (r : Spot) (β : List Symbol) (outer inner : Open) (none : List PyPart) → inner ≡ record { spot = r; parts = none } → none ≡ [] → outer ≡ m.current → Picked r (drop m.at items) (Some β) → q.items ≡ m.pending.items ++ step.Close ∷ [] → reverse p.items ≡ map step.Do β ++ reverse q.items → os.items ≡ m.opens.items ++ outer ∷ [] → IsSound m → Moves items m (step.Do (symbol.Node r) ∷ reverse m.pending.items) (record m { pending = p; opens = os; current = inner })
+open_pushed items m p q os r β outer inner none ei en eo k eq ep es sound =
+  open_moves items m p os (reverse m.pending.items) r β inner (ei ∙ ap (λ v. record { spot = r; parts = v }) en) k
+  (ep ∙ ap (λ v. map step.Do β ++ v) (ap (λ v. reverse v) eq ∙ reverse-append m.pending.items (step.Close ∷ [])))
+  (es ∙ ap (λ o. m.opens.items ++ o ∷ []) eo) sound
+
+pub many_pushed : (items : List Item) (m : Machine) (p q : Vec Step) (r : Spot) (β : List Symbol) → Picked r (drop m.at items) (Some β) → q.items ≡ m.pending.items ++ step.Do (symbol.Many r) ∷ [] → reverse p.items ≡ map step.Do β ++ reverse q.items → IsSound m → Moves items m (step.Do (symbol.Many r) ∷ reverse m.pending.items) (record m { pending = p })
+many_pushed items m p q r β k eq ep sound = many_moves items m p (reverse m.pending.items) r β k (ep ∙ ap (λ v. map step.Do β ++ v) (ap (λ v. reverse v) eq ∙ reverse-append m.pending.items (step.Do (symbol.Many r) ∷ []))) sound
+
+-- the steps of a close: one that is told, or that none is left
+pub record Closes (m : Machine) (S : List Step) : Type 0 where
+  pub none : upto S ≡ []
+  pub behind : after S ≡ reverse m.pending.items
+  pub shorter : length (reverse m.pending.items) ≤ length S
+  pub cheaper : cost (reverse m.pending.items) ≤ cost S
+
+pub closes_top : (m : Machine) → Closes m (step.Close ∷ reverse m.pending.items)
+unfolding upto after cost
+closes_top m = record { none = refl; behind = refl; shorter = omega arith; cheaper = omega arith }
+
+pub closes_end : (m : Machine) → m.pending.items ≡ [] → Closes m []
+unfolding upto after cost
+closes_end m e =
+  let z : reverse m.pending.items ≡ [] = ap (λ v. reverse v) e in
+  record { none = refl; behind = sym z; shorter = subst (λ v. length v ≤ 0) (sym z) (omega arith); cheaper = subst (λ v. cost v ≤ 0) (sym z) (omega arith) }
+
+-- a list from which nothing could be taken, and what is left of it
+pub record Emptied {A : Type 0} (old new : List A) : Type 0 where
+  pub before : old ≡ []
+  pub now : new ≡ []
+
+pub emptied : {A : Type 0} (old new : List A) (n : ℕ) → n ≡ 0 → new ≡ take (n - 1) old → old ≡ new ++ [] → Emptied old new
+emptied old new n z r e =
+  let t : new ≡ [] = r ∙ ap (λ k. take (k - 1) old) z in
+  record { before = e ∙ ap (λ l. l ++ []) t; now = t }
+
+pub close_last : (items : List Item) (m new : Machine) (S : List Step) (id : Id PyNodes) (rule : Rule) (ps : List PyPart) → Closes m S → m.opens.items ≡ [] → length items ≤ m.at → rule ≡ label m.current.spot → ps ≡ m.current.parts → IsHung rule ps m.nodes new.nodes id.place → IsSound m → IsWhole items m S new id.place
+close_last items m new S id rule ps c eo past er ep hung sound = close_whole items m new S id c.none eo past (subst (λ r. IsHung r m.current.parts m.nodes new.nodes id.place) er (subst (λ q. IsHung rule q m.nodes new.nodes id.place) ep hung)) sound
+
+pub close_left : (items : List Item) (m : Machine) (S : List Step) (t : Tree) → Closes m S → m.opens.items ≡ [] → m.at < length items → EndsIn items m S t → ⊥
+close_left items m S t c eo lt h = close_stuck items m S t c.none eo lt h
+
+pub close_inner : (items : List Item) (m : Machine) (nodes : List PyNode) (os : Vec Open) (outer popped inner : Open) (rule : Rule) (qs : List PyPart) (S : List Step) (id : Id PyNodes) → Closes m S → m.opens.items ≡ os.items ++ popped ∷ [] → outer ≡ popped → inner ≡ m.current → rule ≡ label inner.spot → IsHung rule inner.parts m.nodes nodes id.place → qs ≡ outer.parts ++ part.Node id ∷ [] → IsSound m → Moves items m S (record m { nodes = nodes; opens = os; current = record outer { parts = qs } })
+close_inner items m nodes os outer popped inner rule qs S id c eo ep ei er hung eq sound =
+  close_moves items m nodes os outer qs S id c.none c.behind c.shorter c.cheaper
+  (eo ∙ ap (λ o. os.items ++ o ∷ []) (sym ep))
+  (subst (λ i. IsHung (label i.spot) i.parts m.nodes nodes id.place) ei (subst (λ r. IsHung r inner.parts m.nodes nodes id.place) er hung)) eq sound
+
+-- the state after the next step is taken from the list of steps
+pub popped_turns : (items : List Item) (m : Machine) (p : Vec Step) (S T : List Step) (new : Machine) (result : Result Turn Stop) → S ≡ T → Turns items (record m { pending = p }) S new result → Turns items m T new result
+unfolding EndsIn left
+popped_turns items m p S T new (Ok turn.On) e h = subst (λ R. Moves items m R new) e (record { trees = h.trees; fewer = h.fewer; sound = h.sound })
+popped_turns items m p S T new (Ok (turn.Done id)) e h = subst (λ R. IsWhole items m R new id.place) e (record { trees = h.trees; inside = h.inside })
+popped_turns items m p S T new (Err (stop.Wrong at)) e h = λ t k. h t (subst (λ R. EndsIn items m R t) (sym e) k)
+popped_turns items m p S T new (Err stop.NoMemory) e h = tt
+
+pub popped_some : (items : List Item) (m : Machine) (p : Vec Step) (top : Option Step) (s : Step) (new : Machine) (result : Result Turn Stop) → top ≡ Some s → m.pending.items ≡ p.items ++ option_to_list top → Turns items (record m { pending = p }) (s ∷ reverse p.items) new result → Turns items m (reverse m.pending.items) new result
+popped_some items m p top s new result is e h = popped_turns items m p (s ∷ reverse p.items) (reverse m.pending.items) new result (sym (ap (λ v. reverse v) (e ∙ ap (λ o. p.items ++ option_to_list o) is) ∙ reverse-append p.items (s ∷ []))) h
+
+pub popped_none : (items : List Item) (m : Machine) (p : Vec Step) (new : Machine) (result : Result Turn Stop) → Emptied m.pending.items p.items → (p.items ≡ [] → Turns items (record m { pending = p }) [] new result) → Turns items m (reverse m.pending.items) new result
+popped_none items m p new result e h = popped_turns items m p [] (reverse m.pending.items) new result (sym (ap (λ v. reverse v) e.before)) (h e.now)
+
+no_parts : (n : ℕ) → parts_below n [] ≡ true
+unfolding parts_below
+no_parts n = refl
+
+no_opens : (n : ℕ) → opens_below n [] ≡ true
+unfolding opens_below
+no_opens n = refl
+
+only_child : {l : List Item} {more : Parts} {t : Tree} → Reads (symbol.Node spot.File ∷ []) l [] more → t ≡ wrap (label spot.File) more → Reads (symbol.Node spot.File ∷ []) l [] (child t end)
+unfolding wrap
+only_child {l = l} {t = t} (opened {qs = qs} k f done) e = subst (λ u. Reads (symbol.Node spot.File ∷ []) l [] (child u end)) (sym e) (opened k f done)
+
+start_in : (f : ℕ → Tree) (items : List Item) (t : Tree) → Ends f [] spot.File (plants f []) (step.Do (symbol.Node spot.File) ∷ []) items t → IsTreeOf items t
+unfolding Ends upto plants joined
+start_in f items t h = read_file items t (only_child h.1.0.reads (h.1.1 ∙ ap (λ q. wrap (label spot.File) q) h.1.0.are))
+
+start_out : (f : ℕ → Tree) (items : List Item) (t : Tree) → IsTreeOf items t → Ends f [] spot.File (plants f []) (step.Do (symbol.Node spot.File) ∷ []) items t
+unfolding Ends upto plants joined wrap
+start_out f items t h = (child t end, (record { more = child t end; reads = file_read items t h; are = refl }, refl))
+
+-- the first state has the trees of the whole list
+pub started : (items : List Item) (m : Machine) → IsStart m → IsReading items m
+unfolding EndsIn
+started items m s =
+  let zero_at : drop m.at items ≡ items = ap (λ n. drop n items) s.at in
+  let rp : reverse m.pending.items ≡ step.Do (symbol.Node spot.File) ∷ [] = ap (λ v. reverse v) s.pending in
+  let ro : reverse m.opens.items ≡ [] = ap (λ v. reverse v) s.opens in
+  record {
+    sound = record { parts = subst (λ v. parts_below (length m.nodes) v ≡ true) (sym s.parts) (no_parts (length m.nodes)); opens = subst (λ v. opens_below (length m.nodes) v ≡ true) (sym ro) (no_opens (length m.nodes)) };
+    trees = λ t. (λ h. start_in (tree_at m.nodes) items t (subst (λ v. Ends (tree_at m.nodes) v spot.File (plants (tree_at m.nodes) []) (step.Do (symbol.Node spot.File) ∷ []) items t) ro (subst (λ v. Ends (tree_at m.nodes) (reverse m.opens.items) spot.File (plants (tree_at m.nodes) []) v items t) rp (subst (λ v. Ends (tree_at m.nodes) (reverse m.opens.items) spot.File (plants (tree_at m.nodes) []) (reverse m.pending.items) v t) zero_at (subst (λ v. Ends (tree_at m.nodes) (reverse m.opens.items) spot.File (plants (tree_at m.nodes) v) (reverse m.pending.items) (drop m.at items) t) s.parts (subst (λ v. Ends (tree_at m.nodes) (reverse m.opens.items) v (plants (tree_at m.nodes) m.current.parts) (reverse m.pending.items) (drop m.at items) t) s.spot h))))), λ h. subst (λ v. Ends (tree_at m.nodes) (reverse m.opens.items) v (plants (tree_at m.nodes) m.current.parts) (reverse m.pending.items) (drop m.at items) t) (sym s.spot) (subst (λ v. Ends (tree_at m.nodes) (reverse m.opens.items) spot.File (plants (tree_at m.nodes) v) (reverse m.pending.items) (drop m.at items) t) (sym s.parts) (subst (λ v. Ends (tree_at m.nodes) (reverse m.opens.items) spot.File (plants (tree_at m.nodes) []) (reverse m.pending.items) v t) (sym zero_at) (subst (λ v. Ends (tree_at m.nodes) (reverse m.opens.items) spot.File (plants (tree_at m.nodes) []) v items t) (sym rp) (subst (λ v. Ends (tree_at m.nodes) v spot.File (plants (tree_at m.nodes) []) (step.Do (symbol.Node spot.File) ∷ []) items t) (sym ro) (start_out (tree_at m.nodes) items t h))))))
+  }
+
+pub go_on_reading : (items : List Item) (old new : Machine) → IsReading items old → Moves items old (reverse old.pending.items) new → IsReading items new
+go_on_reading items old new r m = record { sound = m.sound; trees = λ t. (λ h. (r.trees t).0 ((m.trees t).1 h), λ h. (m.trees t).0 ((r.trees t).1 h)) }
+
+pub whole_is : (items : List Item) (old new : Machine) (place : ℕ) → IsReading items old → IsWhole items old (reverse old.pending.items) new place → IsTreeOf items (tree_at new.nodes place)
+whole_is items old new place r w = (r.trees (tree_at new.nodes place)).0 ((w.trees (tree_at new.nodes place)).1 refl)

@@ -2,6 +2,8 @@
 #![tactic(auto)]
 
 mod machine;
+pub mod reading;
 pub mod tree;
 
+pub use reading::read;
 pub use tree::{PyNode, PyNodes, PyPart, Tree};
