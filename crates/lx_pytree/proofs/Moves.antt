@@ -385,8 +385,8 @@ popped_turns items m p S T new (Ok (turn.Done id)) e h = subst (λ R. IsWhole it
 popped_turns items m p S T new (Err (stop.Wrong at)) e h = λ t k. h t (subst (λ R. EndsIn items m R t) (sym e) k)
 popped_turns items m p S T new (Err stop.NoMemory) e h = tt
 
-pub popped_some : (items : List Item) (m : Machine) (p : Vec Step) (top : Option Step) (s : Step) (new : Machine) (result : Result Turn Stop) → top ≡ Some s → m.pending.items ≡ p.items ++ option_to_list top → Turns items (record m { pending = p }) (s ∷ reverse p.items) new result → Turns items m (reverse m.pending.items) new result
-popped_some items m p top s new result is e h = popped_turns items m p (s ∷ reverse p.items) (reverse m.pending.items) new result (sym (ap (λ v. reverse v) (e ∙ ap (λ o. p.items ++ option_to_list o) is) ∙ reverse-append p.items (s ∷ []))) h
+pub popped_some : (items : List Item) (m : Machine) (p : Vec Step) (top : Option Step) (x s : Step) (new : Machine) (result : Result Turn Stop) → top ≡ Some x → x ≡ s → m.pending.items ≡ p.items ++ option_to_list top → Turns items (record m { pending = p }) (s ∷ reverse p.items) new result → Turns items m (reverse m.pending.items) new result
+popped_some items m p top x s new result is at e h = popped_turns items m p (s ∷ reverse p.items) (reverse m.pending.items) new result (sym (ap (λ v. reverse v) (e ∙ (ap (λ o. p.items ++ option_to_list o) is ∙ ap (λ y. p.items ++ y ∷ []) at)) ∙ reverse-append p.items (s ∷ []))) h
 
 pub popped_none : (items : List Item) (m : Machine) (p : Vec Step) (new : Machine) (result : Result Turn Stop) → Emptied m.pending.items p.items → (p.items ≡ [] → Turns items (record m { pending = p }) [] new result) → Turns items m (reverse m.pending.items) new result
 popped_none items m p new result e h = popped_turns items m p [] (reverse m.pending.items) new result (sym (ap (λ v. reverse v) e.before)) (h e.now)

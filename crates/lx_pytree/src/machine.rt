@@ -11,7 +11,7 @@ ghost use Rattle.lx_grammar.specs.declared.grammar.Symbol.TheVariants.{Token, No
 use crate::tree::{PyNode, PyNodes, PyPart, closed};
 use lx_arena::{Arena, Id};
 use lx_grammar::{Item, Sign, Spot, Symbol, number_of, production, rule_of, view_of};
-use lx_text::List;
+use lx_text::{List, NoMemory};
 use std::alloc::Global;
 use std::mem::replace;
 
@@ -79,12 +79,12 @@ fn push_row(pending: &mut Vec<Step>, row: &[Symbol]) -> Result<(), Stop>
 
 impl Machine {
     // Nothing is read, and a file is to be.
-    pub fn new(alloc: Global) -> Result<Machine, Stop>
+    pub fn new(alloc: Global) -> Result<Machine, NoMemory>
         ensures { IfOk result IsStart }
     {
         let mut pending = Vec::new(alloc);
         let Ok(()) = pending.push(Step::Do(Symbol::Node(Spot::File))) else {
-            return Err(Stop::NoMemory);
+            return Err(NoMemory);
         };
         Ok(Machine {
             alloc,
@@ -104,11 +104,12 @@ impl Machine {
         requires { IsSound self.old }
         ensures { Turns items.now self.old (reverse self.old.pending.items) self.new result }
     {
-        let top = self.pending.pop();
+        let Some(top) = self.pending.pop() else {
+            return self.close(items);
+        };
         match top {
-            None => self.close(items),
-            Some(Step::Close) => self.close(items),
-            Some(Step::Do(symbol)) => self.go_on(items, symbol),
+            Step::Close => self.close(items),
+            Step::Do(symbol) => self.go_on(items, symbol),
         }
     }
 

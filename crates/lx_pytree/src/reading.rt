@@ -6,7 +6,7 @@ ghost use Rattle.lx_pytree.specs.Reading.{IsAtToken, ReadsText, Runs};
 use crate::machine::{Machine, Stop, Turn};
 use crate::tree::Tree;
 use lx_grammar::{Item, signed};
-use lx_text::{Fault, Kind, List, Refusal};
+use lx_text::{Fault, Kind, List, NoMemory, Refusal};
 use lx_token::Token;
 use std::alloc::Global;
 
@@ -15,7 +15,9 @@ use std::alloc::Global;
 pub fn read(alloc: Global, src: &[u8], tokens: &List<Token>) -> Result<Tree, Refusal>
     ensures { ReadsText src.now tokens.now result }
 {
-    let items = signed(alloc, src, tokens.as_slice())?;
+    let Ok(items) = signed(alloc, src, tokens.as_slice()) else {
+        return Err(Refusal::NoMemory);
+    };
     match run(alloc, items.as_slice()) {
         Ok(tree) => Ok(tree),
         Err(Stop::Wrong(at)) => Err(Refusal::Fault(refused(tokens.as_slice(), at))),
@@ -29,9 +31,9 @@ fn run(alloc: Global, items: &[Item]) -> Result<Tree, Stop>
 {
     let mut machine = match Machine::new(alloc) {
         Ok(machine) => machine,
-        Err(stop) => return Err(stop),
+        Err(NoMemory) => return Err(Stop::NoMemory),
     };
-    loop {
+    'steps: loop {
         match machine.step(items) {
             Err(stop) => return Err(stop),
             Ok(Turn::On) => {}

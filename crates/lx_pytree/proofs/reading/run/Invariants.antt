@@ -2,8 +2,8 @@ use Rattle.std.proofs.Common.{reverse}
 use Rattle.lx_pytree.specs.Machine.{IsReading, left}
 use Rattle.lx_pytree.proofs.reading.run.Given as goal
 
-abbrev pub invariant-loop-machine : goal.invariant-loop-machine
-invariant-loop-machine l = IsReading l.items l.machine
+abbrev pub invariant-steps : goal.invariant-steps
+invariant-steps l = IsReading l.items l.machine
 
-abbrev pub decreases-loop-machine : goal.decreases-loop-machine
-decreases-loop-machine l = left l.items l.machine (reverse l.machine.pending.items)
+abbrev pub decreases-steps : goal.decreases-steps
+decreases-steps l = left l.items l.machine (reverse l.machine.pending.items)
