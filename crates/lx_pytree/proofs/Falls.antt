@@ -198,7 +198,7 @@ cost_most (step.Do (symbol.Many r) ∷ S) = omega (arith, weight_most r, cost_mo
 pub row_falls : (r : Spot) (i : ℕ) (β : List Symbol) (S : List Step) → slice_get (rules r) i ≡ Some β → length β + cost (map step.Do β ++ S) + 2 < weight r
 unfolding light
 row_falls r i β S e =
-  let ok : (solid β && nat_lt (length β + row_cost β + 2) (weight r)) ≡ true = row_at (light r) (rules r) i β (all_light r) e in
-  let c : cost (map step.Do β ++ S) ≡ row_cost β = cost_row β S (left_of (solid β) (nat_lt (length β + row_cost β + 2) (weight r)) ok) in
-  let lt : length β + row_cost β + 2 < weight r = ltb-true _ _ (right_of (solid β) (nat_lt (length β + row_cost β + 2) (weight r)) ok) in
-  omega arith
+    let ok : (solid β && nat_lt (length β + row_cost β + 2) (weight r)) ≡ true = row_at (light r) (rules r) i β (all_light r) e in
+    let c : cost (map step.Do β ++ S) ≡ row_cost β = cost_row β S (left_of (solid β) (nat_lt (length β + row_cost β + 2) (weight r)) ok) in
+    let lt : length β + row_cost β + 2 < weight r = ltb-true _ _ (right_of (solid β) (nat_lt (length β + row_cost β + 2) (weight r)) ok) in
+    omega arith

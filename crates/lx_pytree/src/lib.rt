@@ -3,6 +3,8 @@
 
 mod machine;
 pub mod reading;
+#[cfg(test)]
+mod tests;
 pub mod tree;
 
 pub use reading::read;

@@ -259,5 +259,9 @@ impl Machine {
 fn rest_of(items: &[Item], at: usize) -> &[Item]
     ensures { result.now ≡ drop at items.now }
 {
-    if at < items.len() { &items[at..] } else { &items[items.len()..] }
+    if at < items.len() {
+        &items[at..]
+    } else {
+        &items[items.len()..]
+    }
 }

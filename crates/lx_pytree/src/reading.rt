@@ -52,7 +52,11 @@ fn shown(length: usize, at: usize) -> u32
     ensures { 0 < length → result < length }
 {
     let place = at.min(length.saturating_sub(1));
-    if place < 4_294_967_296 { place as u32 } else { 0 }
+    if place < 4_294_967_296 {
+        place as u32
+    } else {
+        0
+    }
 }
 
 // The fault at a place.
