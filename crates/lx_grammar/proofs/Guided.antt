@@ -29,10 +29,13 @@ fitting r i β e = row_at (row_fits r) (rules r) i β (passes r) e
 -- the four parts of a row's test
 abbrev picks_part : Spot → ℕ → List Symbol → Bool
 picks_part r i β = if is_far r then picked_far r i β else picked_near r i β
+
 abbrev starts_part : Spot → List Symbol → Bool
 starts_part r β = within (predict (accepts (follow r)) β) (accepts (starts r))
+
 abbrev fits_part : Spot → List Symbol → Bool
 fits_part r β = fits (accepts (follow r)) β
+
 abbrev still_part : Spot → List Symbol → Bool
 still_part r β = still (hush r) β 0
 
@@ -74,17 +77,17 @@ deep r h d b n hb = let x : hush r ≤ h + d = not_below _ _ (no_is _ n) in omeg
 calm_token : (o cl lo : Bool) (h d b c : ℕ) (next : ℕ → Bool) (l : List Item) (goal : ℕ) → ((e : ℕ) → next e ≡ true → ahead (e + b) l ≡ goal) → still_token o cl lo h d next ≡ true → h ≤ b → (if o then ahead ((d + b) + 1) l else (if cl then (if nat_eq (d + b) 0 then c else ahead ((d + b) - 1) l) else (if nat_eq (d + b) 0 && lo then c else ahead (d + b) l))) ≡ goal
 calm_token true cl lo h d b c next l goal go s hb = let e : (d + b) + 1 ≡ (d + 1) + b = omega arith in ap (λ k. ahead k l) e ∙ go (d + 1) s
 calm_token false true lo h d b c next l goal go s hb =
-  let pos : 0 < d = ltb-true 0 d (left_of _ _ s) in
-  let z : nat_eq (d + b) 0 ≡ false = grind (arith, nat_tests) in
-  let e : (d + b) - 1 ≡ (d - 1) + b = omega arith in
-  let last : ahead ((d + b) - 1) l ≡ goal = ap (λ k. ahead k l) e ∙ go (d - 1) (right_of _ _ s) in
-  subst (λ k. (if k then c else ahead ((d + b) - 1) l) ≡ goal) (sym z) last
+    let pos : 0 < d = ltb-true 0 d (left_of _ _ s) in
+    let z : nat_eq (d + b) 0 ≡ false = grind (arith, nat_tests) in
+    let e : (d + b) - 1 ≡ (d - 1) + b = omega arith in
+    let last : ahead ((d + b) - 1) l ≡ goal = ap (λ k. ahead k l) e ∙ go (d - 1) (right_of _ _ s) in
+    subst (λ k. (if k then c else ahead ((d + b) - 1) l) ≡ goal) (sym z) last
 calm_token false false true h d b c next l goal go s hb =
-  let pos : 0 < h + d = ltb-true 0 (h + d) (or_off _ (left_of _ _ s)) in
-  let z : nat_eq (d + b) 0 ≡ false = grind (arith, nat_tests) in
-  subst (λ k. (if k && true then c else ahead (d + b) l) ≡ goal) (sym z) (go d (right_of _ _ s))
+    let pos : 0 < h + d = ltb-true 0 (h + d) (or_off _ (left_of _ _ s)) in
+    let z : nat_eq (d + b) 0 ≡ false = grind (arith, nat_tests) in
+    subst (λ k. (if k && true then c else ahead (d + b) l) ≡ goal) (sym z) (go d (right_of _ _ s))
 calm_token false false false h d b c next l goal go s hb =
-  elim (nat_eq (d + b) 0) as (λ k. (if k && false then c else ahead (d + b) l) ≡ goal) [ true ↦ go d (right_of _ _ s) | false ↦ go d (right_of _ _ s) ]
+    elim (nat_eq (d + b) 0) as (λ k. (if k && false then c else ahead (d + b) l) ≡ goal) [ true ↦ go d (right_of _ _ s) | false ↦ go d (right_of _ _ s) ]
 
 from_zero : (n : ℕ) (l : List Item) → ahead n l ≡ ahead (0 + n) l
 from_zero n l = let e : n ≡ 0 + n = omega arith in ap (λ k. ahead k l) e
@@ -94,9 +97,9 @@ pub calm : {α : List Symbol} {l m : List Item} {ps : Parts} → Derives α l m 
 unfolding still ahead
 calm (none {l = l}) h d b s hb = let z : d ≡ 0 = eqb-true d 0 s in let e : d + b ≡ b = omega arith in ap (λ k. ahead k l) e
 calm (take {s = s} {α = α} {x = x} {l = l} {m = m} e f) h d b g hb =
-  let k : (accepts OPENING (number x.sign) ≡ accepts OPENING (number s)) × (accepts CLOSING (number x.sign) ≡ accepts CLOSING (number s)) × (accepts LOUD (number x.sign) ≡ accepts LOUD (number s)) = kinds (number s) (number x.sign) (number_below s) (number_below x.sign) e in
-  let g2 : still_token (accepts OPENING (number x.sign)) (accepts CLOSING (number x.sign)) (accepts LOUD (number x.sign)) h d (still h α) ≡ true = stilled _ _ _ _ _ _ h d (still h α) k.0 k.1 k.2 g in
-  calm_token (accepts OPENING (number x.sign)) (accepts CLOSING (number x.sign)) (accepts LOUD (number x.sign)) h d b (number x.sign) (still h α) l (ahead b m) (λ i j. calm f h i b j hb) g2 hb
+    let k : (accepts OPENING (number x.sign) ≡ accepts OPENING (number s)) × (accepts CLOSING (number x.sign) ≡ accepts CLOSING (number s)) × (accepts LOUD (number x.sign) ≡ accepts LOUD (number s)) = kinds (number s) (number x.sign) (number_below s) (number_below x.sign) e in
+    let g2 : still_token (accepts OPENING (number x.sign)) (accepts CLOSING (number x.sign)) (accepts LOUD (number x.sign)) h d (still h α) ≡ true = stilled _ _ _ _ _ _ h d (still h α) k.0 k.1 k.2 g in
+    calm_token (accepts OPENING (number x.sign)) (accepts CLOSING (number x.sign)) (accepts LOUD (number x.sign)) h d b (number x.sign) (still h α) l (ahead b m) (λ i j. calm f h i b j hb) g2 hb
 calm (node {r = r} i {β = β} {α = α} {l = l} {k = k} e f g) h d b s hb = from_zero (d + b) _ ∙ calm f (hush r) 0 (d + b) (row_still r i β e) (deep r h d b (left_of _ _ s) hb) ∙ calm g h d b (right_of _ _ s) hb
 calm (one {r = r} i {β = β} e f g) h d b s hb = from_zero (d + b) _ ∙ calm f (hush r) 0 (d + b) (row_still r i β e) (deep r h d b (left_of _ _ s) hb) ∙ calm g h d b (right_of _ _ s) hb
 calm (skip g) h d b s hb = calm g h d b (right_of _ _ s) hb
@@ -141,7 +144,7 @@ far_chosen r i {β = β} {l = l} e f q h = eqb-true _ _ (modus _ _ (every_at 61 
 pub chosen : (r : Spot) (i : ℕ) {β : List Symbol} {l k : List Item} {qs : Parts} → slice_get (rules r) i ≡ Some β → Derives β l k qs → predict (accepts (follow r)) β (look l) ≡ true → accepts (follow r) (look k) ≡ true → pick r (view r l) ≡ i
 unfolding view
 chosen r i {β = β} {l = l} e f p q =
-  elim (is_far r) as (λ b. (if b then picked_far r i β else picked_near r i β) ≡ true → pick r (if b then ahead 0 l else look l) ≡ i) [ true ↦ far_chosen r i e f q | false ↦ near_chosen r i β l p ] (row_picked r i β e)
+    elim (is_far r) as (λ b. (if b then picked_far r i β else picked_near r i β) ≡ true → pick r (if b then ahead 0 l else look l) ≡ i) [ true ↦ far_chosen r i e f q | false ↦ near_chosen r i β l p ] (row_picked r i β e)
 
 -- what reading gives, and what the next token may be
 pub record Led (F : ℕ → Bool) (α : List Symbol) (l m : List Item) (ps : Parts) : Type 0 where
@@ -158,49 +161,49 @@ inner : (r : Spot) (i : ℕ) {β : List Symbol} {l k : List Item} {qs : Parts} �
 inner r i {β = β} {l = l} {k = k} e f led q = record {
   inside = led.reads;
   picks = subst (λ j. slice_get (rules r) j ≡ Some β) (sym (chosen r i e f led.seen q)) e;
-  begins = within_at _ _ (look l) (row_starts r i β e) (look_below l) led.seen
+  begins = within_at _ _ (look l) (row_starts r i β e) (look_below l) led.seen;
 }
 
 passed_by : (r : Spot) (G : ℕ → Bool) (l : List Item) → passes_by r G ≡ true → G (look l) ≡ true → slice_get (rules r) (pick r (view r l)) ≡ None
 unfolding passes_by view
 passed_by r G l h e =
-  let near : is_far r ≡ false = no_is _ (left_of _ _ h) in
-  let out : no (nat_lt (pick r (look l)) (length (rules r))) ≡ true = modus _ _ (every_at 61 (look l) (λ k. imp (G k) (no (nat_lt (pick r k) (length (rules r))))) (right_of _ _ h) (look_below l)) e in
-  let past : length (rules r) ≤ pick r (look l) = not_below _ _ (no_is _ out) in
-  subst (λ b. slice_get (rules r) (pick r (if b then ahead 0 l else look l)) ≡ None) (sym near) (slice_get_past (rules r) (pick r (look l)) past)
+    let near : is_far r ≡ false = no_is _ (left_of _ _ h) in
+    let out : no (nat_lt (pick r (look l)) (length (rules r))) ≡ true = modus _ _ (every_at 61 (look l) (λ k. imp (G k) (no (nat_lt (pick r k) (length (rules r))))) (right_of _ _ h) (look_below l)) e in
+    let past : length (rules r) ≤ pick r (look l) = not_below _ _ (no_is _ out) in
+    subst (λ b. slice_get (rules r) (pick r (if b then ahead 0 l else look l)) ≡ None) (sym near) (slice_get_past (rules r) (pick r (look l)) past)
 
 pub guided : {α : List Symbol} {l m : List Item} {ps : Parts} → Derives α l m ps → (F : ℕ → Bool) → fits F α ≡ true → F (look m) ≡ true → Led F α l m ps
 unfolding fits predict look
 guided none F h e = record { reads = done; seen = e }
 guided (take {s = s} {α = α} {x = x} {l = l} t g) F h e =
-  let rest : Led F α l _ _ = guided g F h e in
-  record { reads = took t rest.reads; seen = marks_sound (number s) (number x.sign) (look l) (predict F α) (number_below s) (number_below x.sign) (look_below l) t rest.seen }
+    let rest : Led F α l _ _ = guided g F h e in
+    record { reads = took t rest.reads; seen = marks_sound (number s) (number x.sign) (look l) (predict F α) (number_below s) (number_below x.sign) (look_below l) t rest.seen }
 guided (node {r = r} i {β = β} {α = α} {l = l} {k = k} {qs = qs} t f g) F h e =
-  let rest : Led F α k _ _ = guided g F (right_of _ _ h) e in
-  let q : accepts (follow r) (look k) ≡ true = within_at _ _ (look k) (left_of _ _ h) (look_below k) rest.seen in
-  let in_row : Inner r i β l k qs = inner r i t f (guided f (accepts (follow r)) (row_inner r i β t) q) q in
-  record { reads = opened in_row.picks in_row.inside rest.reads; seen = in_row.begins }
+    let rest : Led F α k _ _ = guided g F (right_of _ _ h) e in
+    let q : accepts (follow r) (look k) ≡ true = within_at _ _ (look k) (left_of _ _ h) (look_below k) rest.seen in
+    let in_row : Inner r i β l k qs = inner r i t f (guided f (accepts (follow r)) (row_inner r i β t) q) q in
+    record { reads = opened in_row.picks in_row.inside rest.reads; seen = in_row.begins }
 guided (one {r = r} i {β = β} {α = α} {l = l} {k = k} {qs = qs} t f g) F h e =
-  let rest : Led F α k _ _ = guided g F (right_of _ _ h) e in
-  let q : accepts (follow r) (look k) ≡ true = within_at _ _ (look k) (left_of _ _ h) (look_below k) rest.seen in
-  let in_row : Inner r i β l k qs = inner r i t f (guided f (accepts (follow r)) (row_inner r i β t) q) q in
-  record { reads = inlined in_row.picks in_row.inside rest.reads; seen = in_row.begins }
+    let rest : Led F α k _ _ = guided g F (right_of _ _ h) e in
+    let q : accepts (follow r) (look k) ≡ true = within_at _ _ (look k) (left_of _ _ h) (look_below k) rest.seen in
+    let in_row : Inner r i β l k qs = inner r i t f (guided f (accepts (follow r)) (row_inner r i β t) q) q in
+    record { reads = inlined in_row.picks in_row.inside rest.reads; seen = in_row.begins }
 guided (skip {r = r} {α = α} {l = l} g) F h e =
-  let rest : Led F α l _ _ = guided g F (right_of _ _ (right_of _ _ h)) e in
-  record { reads = skipped (passed_by r (predict F α) l (left_of _ _ (right_of _ _ h)) rest.seen) rest.reads; seen = or_right _ _ rest.seen }
+    let rest : Led F α l _ _ = guided g F (right_of _ _ (right_of _ _ h)) e in
+    record { reads = skipped (passed_by r (predict F α) l (left_of _ _ (right_of _ _ h)) rest.seen) rest.reads; seen = or_right _ _ rest.seen }
 guided (once {r = r} i {β = β} {α = α} {l = l} {k = k} {qs = qs} t f g) F h e =
-  let rest : Led F α k _ _ = guided g F (right_of _ _ (right_of _ _ h)) e in
-  let q : accepts (follow r) (look k) ≡ true = within_at _ _ (look k) (left_of _ _ h) (look_below k) rest.seen in
-  let in_row : Inner r i β l k qs = inner r i t f (guided f (accepts (follow r)) (row_inner r i β t) q) q in
-  record { reads = given in_row.picks in_row.inside rest.reads; seen = or_left _ _ in_row.begins }
+    let rest : Led F α k _ _ = guided g F (right_of _ _ (right_of _ _ h)) e in
+    let q : accepts (follow r) (look k) ≡ true = within_at _ _ (look k) (left_of _ _ h) (look_below k) rest.seen in
+    let in_row : Inner r i β l k qs = inner r i t f (guided f (accepts (follow r)) (row_inner r i β t) q) q in
+    record { reads = given in_row.picks in_row.inside rest.reads; seen = or_left _ _ in_row.begins }
 guided (stop {r = r} {α = α} {l = l} g) F h e =
-  let rest : Led F α l _ _ = guided g F (right_of _ _ (right_of _ _ h)) e in
-  record { reads = ended (passed_by r (predict F α) l (left_of _ _ (right_of _ _ h)) rest.seen) rest.reads; seen = or_right _ _ rest.seen }
+    let rest : Led F α l _ _ = guided g F (right_of _ _ (right_of _ _ h)) e in
+    record { reads = ended (passed_by r (predict F α) l (left_of _ _ (right_of _ _ h)) rest.seen) rest.reads; seen = or_right _ _ rest.seen }
 guided (more {r = r} i {β = β} {α = α} {l = l} {k = k} {qs = qs} t f g) F h e =
-  let rest : Led F (symbol.Many r ∷ α) k _ _ = guided g F h e in
-  let q : accepts (follow r) (look k) ≡ true = within_at _ _ (look k) (left_of _ _ h) (look_below k) rest.seen in
-  let in_row : Inner r i β l k qs = inner r i t f (guided f (accepts (follow r)) (row_inner r i β t) q) q in
-  record { reads = again in_row.picks in_row.inside rest.reads; seen = or_left _ _ in_row.begins }
+    let rest : Led F (symbol.Many r ∷ α) k _ _ = guided g F h e in
+    let q : accepts (follow r) (look k) ≡ true = within_at _ _ (look k) (left_of _ _ h) (look_below k) rest.seen in
+    let in_row : Inner r i β l k qs = inner r i t f (guided f (accepts (follow r)) (row_inner r i β t) q) q in
+    record { reads = again in_row.picks in_row.inside rest.reads; seen = or_left _ _ in_row.begins }
 
 pub sound : {α : List Symbol} {l m : List Item} {ps : Parts} → Reads α l m ps → Derives α l m ps
 sound done = none
@@ -245,31 +248,31 @@ pub same_read : {α : List Symbol} {l m n : List Item} {ps qs : Parts} → Reads
 same_read done done = record { rest = refl; parts = refl }
 same_read (took {x = x} t g) (took u h) = let a : Alike _ _ _ _ = same_read g h in record { rest = a.rest; parts = ap (λ ps. token x.token ps) a.parts }
 same_read {n = n} (opened {r = r} {β = β} {α = α} {l = l} {k = k} {m = m} {qs = qs} {ps = ps} t f g) (opened {β = γ} {k = k2} {qs = qs2} {ps = ps2} u h j) =
-  let e : γ ≡ β = same_some (slice_get (rules r) (pick r (view r l))) t u in
-  let a : Alike k k2 qs qs2 = same_read f (subst (λ b. Reads b l k2 qs2) e h) in
-  let b : Alike m n ps ps2 = same_read g (subst (λ i. Reads α i n ps2) (sym a.rest) j) in
-  record { rest = b.rest; parts = two_parts r a.parts b.parts }
+    let e : γ ≡ β = same_some (slice_get (rules r) (pick r (view r l))) t u in
+    let a : Alike k k2 qs qs2 = same_read f (subst (λ b. Reads b l k2 qs2) e h) in
+    let b : Alike m n ps ps2 = same_read g (subst (λ i. Reads α i n ps2) (sym a.rest) j) in
+    record { rest = b.rest; parts = two_parts r a.parts b.parts }
 same_read {n = n} (inlined {r = r} {β = β} {α = α} {l = l} {k = k} {m = m} {qs = qs} {ps = ps} t f g) (inlined {β = γ} {k = k2} {qs = qs2} {ps = ps2} u h j) =
-  let e : γ ≡ β = same_some (slice_get (rules r) (pick r (view r l))) t u in
-  let a : Alike k k2 qs qs2 = same_read f (subst (λ b. Reads b l k2 qs2) e h) in
-  let b : Alike m n ps ps2 = same_read g (subst (λ i. Reads α i n ps2) (sym a.rest) j) in
-  record { rest = b.rest; parts = two_joined a.parts b.parts }
+    let e : γ ≡ β = same_some (slice_get (rules r) (pick r (view r l))) t u in
+    let a : Alike k k2 qs qs2 = same_read f (subst (λ b. Reads b l k2 qs2) e h) in
+    let b : Alike m n ps ps2 = same_read g (subst (λ i. Reads α i n ps2) (sym a.rest) j) in
+    record { rest = b.rest; parts = two_joined a.parts b.parts }
 same_read (skipped t g) (skipped u h) = same_read g h
 same_read (skipped t g) (given u h j) = cc
 same_read (given t f g) (skipped u h) = cc
 same_read {n = n} (given {r = r} {β = β} {α = α} {l = l} {k = k} {m = m} {qs = qs} {ps = ps} t f g) (given {β = γ} {k = k2} {qs = qs2} {ps = ps2} u h j) =
-  let e : γ ≡ β = same_some (slice_get (rules r) (pick r (view r l))) t u in
-  let a : Alike k k2 qs qs2 = same_read f (subst (λ b. Reads b l k2 qs2) e h) in
-  let b : Alike m n ps ps2 = same_read g (subst (λ i. Reads α i n ps2) (sym a.rest) j) in
-  record { rest = b.rest; parts = two_joined a.parts b.parts }
+    let e : γ ≡ β = same_some (slice_get (rules r) (pick r (view r l))) t u in
+    let a : Alike k k2 qs qs2 = same_read f (subst (λ b. Reads b l k2 qs2) e h) in
+    let b : Alike m n ps ps2 = same_read g (subst (λ i. Reads α i n ps2) (sym a.rest) j) in
+    record { rest = b.rest; parts = two_joined a.parts b.parts }
 same_read (ended t g) (ended u h) = same_read g h
 same_read (ended t g) (again u h j) = cc
 same_read (again t f g) (ended u h) = cc
 same_read {n = n} (again {r = r} {β = β} {α = α} {l = l} {k = k} {m = m} {qs = qs} {ps = ps} t f g) (again {β = γ} {k = k2} {qs = qs2} {ps = ps2} u h j) =
-  let e : γ ≡ β = same_some (slice_get (rules r) (pick r (view r l))) t u in
-  let a : Alike k k2 qs qs2 = same_read f (subst (λ b. Reads b l k2 qs2) e h) in
-  let b : Alike m n ps ps2 = same_read g (subst (λ i. Reads (symbol.Many r ∷ α) i n ps2) (sym a.rest) j) in
-  record { rest = b.rest; parts = two_joined a.parts b.parts }
+    let e : γ ≡ β = same_some (slice_get (rules r) (pick r (view r l))) t u in
+    let a : Alike k k2 qs qs2 = same_read f (subst (λ b. Reads b l k2 qs2) e h) in
+    let b : Alike m n ps ps2 = same_read g (subst (λ i. Reads (symbol.Many r ∷ α) i n ps2) (sym a.rest) j) in
+    record { rest = b.rest; parts = two_joined a.parts b.parts }
 
 tree_in : Parts → Tree
 tree_in end = NoTree

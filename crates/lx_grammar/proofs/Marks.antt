@@ -44,17 +44,21 @@ look_below (x ∷ l) = mark_below (number x.sign) (look l) (number_below x.sign)
 -- what stands behind a token changes no answer to the first two questions, and the third one not by itself
 abbrev keeps_assigning : ℕ → Bool → Bool → Bool → Bool
 keeps_assigning c a e t = same (accepts ASSIGNING (marked c a e t)) (accepts ASSIGNING c)
+
 abbrev keeps_ends : ℕ → Bool → Bool → Bool → Bool
 keeps_ends c a e t = same (accepts ENDS_VALUES (marked c a e t)) (accepts ENDS_VALUES c)
+
 abbrev keeps_target : ℕ → Bool → Bool → Bool → Bool
 keeps_target c a e t = same (nat_eq (marked c a e t) 56) (nat_eq (marked c a false false) 56)
 
 all_assigning : for_marks keeps_assigning ≡ true
 unfolding for_marks every each_bool marked accepts
 all_assigning = refl
+
 all_ends : for_marks keeps_ends ≡ true
 unfolding for_marks every each_bool marked accepts
 all_ends = refl
+
 all_target : for_marks keeps_target ≡ true
 unfolding for_marks every each_bool marked
 all_target = refl
@@ -65,25 +69,26 @@ alike x g a e t p q r = let m : mark x g ≡ marked x (accepts ASSIGNING g) (acc
 -- a third token's own sign is enough
 pub mark_near : (x y z g : ℕ) → y < 61 → z < 61 → mark x (mark y (mark z g)) ≡ mark x (mark y z)
 mark_near x y z g ly lz =
-  let a : Bool = accepts ASSIGNING g in
-  let e : Bool = accepts ENDS_VALUES g in
-  let t : Bool = nat_eq g 56 in
-  let b : ℕ = mark z g in
-  let zb : b ≡ marked z a e t = mark_marked z g in
-  let za : accepts ASSIGNING b ≡ accepts ASSIGNING z = ap (λ k. accepts ASSIGNING k) zb ∙ same_is _ _ (marks_at keeps_assigning z a e t all_assigning lz) in
-  let ze : accepts ENDS_VALUES b ≡ accepts ENDS_VALUES z = ap (λ k. accepts ENDS_VALUES k) zb ∙ same_is _ _ (marks_at keeps_ends z a e t all_ends lz) in
-  let m1 : mark y b ≡ marked y (accepts ASSIGNING z) (accepts ENDS_VALUES z) (nat_eq b 56) = mark_marked y b ∙ (ap (λ k. marked y k (accepts ENDS_VALUES b) (nat_eq b 56)) za ∙ ap (λ k. marked y (accepts ASSIGNING z) k (nat_eq b 56)) ze) in
-  let m2 : mark y z ≡ marked y (accepts ASSIGNING z) (accepts ENDS_VALUES z) (nat_eq z 56) = mark_marked y z in
-  let ya : (t : Bool) → accepts ASSIGNING (marked y (accepts ASSIGNING z) (accepts ENDS_VALUES z) t) ≡ accepts ASSIGNING y = λ t. same_is _ _ (marks_at keeps_assigning y (accepts ASSIGNING z) (accepts ENDS_VALUES z) t all_assigning ly) in
-  let ye : (t : Bool) → accepts ENDS_VALUES (marked y (accepts ASSIGNING z) (accepts ENDS_VALUES z) t) ≡ accepts ENDS_VALUES y = λ t. same_is _ _ (marks_at keeps_ends y (accepts ASSIGNING z) (accepts ENDS_VALUES z) t all_ends ly) in
-  let yt : (t : Bool) → nat_eq (marked y (accepts ASSIGNING z) (accepts ENDS_VALUES z) t) 56 ≡ nat_eq (marked y (accepts ASSIGNING z) false false) 56 = λ t. same_is _ _ (marks_at keeps_target y (accepts ASSIGNING z) (accepts ENDS_VALUES z) t all_target ly) in
-  let n1 : mark x (mark y b) ≡ marked x (accepts ASSIGNING y) (accepts ENDS_VALUES y) (nat_eq (marked y (accepts ASSIGNING z) false false) 56) = alike x (mark y b) _ _ _ (ap (λ k. accepts ASSIGNING k) m1 ∙ ya (nat_eq b 56)) (ap (λ k. accepts ENDS_VALUES k) m1 ∙ ye (nat_eq b 56)) (ap (λ k. nat_eq k 56) m1 ∙ yt (nat_eq b 56)) in
-  let n2 : mark x (mark y z) ≡ marked x (accepts ASSIGNING y) (accepts ENDS_VALUES y) (nat_eq (marked y (accepts ASSIGNING z) false false) 56) = alike x (mark y z) _ _ _ (ap (λ k. accepts ASSIGNING k) m2 ∙ ya (nat_eq z 56)) (ap (λ k. accepts ENDS_VALUES k) m2 ∙ ye (nat_eq z 56)) (ap (λ k. nat_eq k 56) m2 ∙ yt (nat_eq z 56)) in
-  n1 ∙ sym n2
+    let a : Bool = accepts ASSIGNING g in
+    let e : Bool = accepts ENDS_VALUES g in
+    let t : Bool = nat_eq g 56 in
+    let b : ℕ = mark z g in
+    let zb : b ≡ marked z a e t = mark_marked z g in
+    let za : accepts ASSIGNING b ≡ accepts ASSIGNING z = ap (λ k. accepts ASSIGNING k) zb ∙ same_is _ _ (marks_at keeps_assigning z a e t all_assigning lz) in
+    let ze : accepts ENDS_VALUES b ≡ accepts ENDS_VALUES z = ap (λ k. accepts ENDS_VALUES k) zb ∙ same_is _ _ (marks_at keeps_ends z a e t all_ends lz) in
+    let m1 : mark y b ≡ marked y (accepts ASSIGNING z) (accepts ENDS_VALUES z) (nat_eq b 56) = mark_marked y b ∙ (ap (λ k. marked y k (accepts ENDS_VALUES b) (nat_eq b 56)) za ∙ ap (λ k. marked y (accepts ASSIGNING z) k (nat_eq b 56)) ze) in
+    let m2 : mark y z ≡ marked y (accepts ASSIGNING z) (accepts ENDS_VALUES z) (nat_eq z 56) = mark_marked y z in
+    let ya : (t : Bool) → accepts ASSIGNING (marked y (accepts ASSIGNING z) (accepts ENDS_VALUES z) t) ≡ accepts ASSIGNING y = λ t. same_is _ _ (marks_at keeps_assigning y (accepts ASSIGNING z) (accepts ENDS_VALUES z) t all_assigning ly) in
+    let ye : (t : Bool) → accepts ENDS_VALUES (marked y (accepts ASSIGNING z) (accepts ENDS_VALUES z) t) ≡ accepts ENDS_VALUES y = λ t. same_is _ _ (marks_at keeps_ends y (accepts ASSIGNING z) (accepts ENDS_VALUES z) t all_ends ly) in
+    let yt : (t : Bool) → nat_eq (marked y (accepts ASSIGNING z) (accepts ENDS_VALUES z) t) 56 ≡ nat_eq (marked y (accepts ASSIGNING z) false false) 56 = λ t. same_is _ _ (marks_at keeps_target y (accepts ASSIGNING z) (accepts ENDS_VALUES z) t all_target ly) in
+    let n1 : mark x (mark y b) ≡ marked x (accepts ASSIGNING y) (accepts ENDS_VALUES y) (nat_eq (marked y (accepts ASSIGNING z) false false) 56) = alike x (mark y b) _ _ _ (ap (λ k. accepts ASSIGNING k) m1 ∙ ya (nat_eq b 56)) (ap (λ k. accepts ENDS_VALUES k) m1 ∙ ye (nat_eq b 56)) (ap (λ k. nat_eq k 56) m1 ∙ yt (nat_eq b 56)) in
+    let n2 : mark x (mark y z) ≡ marked x (accepts ASSIGNING y) (accepts ENDS_VALUES y) (nat_eq (marked y (accepts ASSIGNING z) false false) 56) = alike x (mark y z) _ _ _ (ap (λ k. accepts ASSIGNING k) m2 ∙ ya (nat_eq z 56)) (ap (λ k. accepts ENDS_VALUES k) m2 ∙ ye (nat_eq z 56)) (ap (λ k. nat_eq k 56) m2 ∙ yt (nat_eq z 56)) in
+    n1 ∙ sym n2
 
 -- a token that is taken has the mark of what it is taken for
 abbrev gives_plain : ℕ → ℕ → Bool → Bool → Bool → Bool
 gives_plain w c a e t = imp (takes w c && plain w) (nat_eq (marked c a e t) w)
+
 abbrev is_one_of : ℕ → ℕ → Bool
 is_one_of w c = imp (takes w c) (nat_eq c w || nat_eq w 0 && (nat_eq c 1 || nat_eq c 2))
 
@@ -108,8 +113,8 @@ gives_at w c g h = gives_by w c g (nat_eq c w) (nat_eq w 0) (nat_eq c 1) (nat_eq
 
 marks_by : (w c g : ℕ) (G : ℕ → Bool) → w < 61 → c < 61 → g < 61 → takes w c ≡ true → G g ≡ true → (p : Bool) → plain w ≡ p → (if p then nat_eq (mark c g) w else some 61 (λ i. G i && gives w i (mark c g))) ≡ true
 marks_by w c g G lw lc lg h hG true e =
-  let t : gives_plain w c (accepts ASSIGNING g) (accepts ENDS_VALUES g) (nat_eq g 56) ≡ true = marks_at (gives_plain w) c _ _ _ (every_at 61 w (λ v. for_marks (gives_plain v)) all_plain lw) lc in
-  ap (λ k. nat_eq k w) (mark_marked c g) ∙ modus _ _ t (both_of _ _ h e)
+    let t : gives_plain w c (accepts ASSIGNING g) (accepts ENDS_VALUES g) (nat_eq g 56) ≡ true = marks_at (gives_plain w) c _ _ _ (every_at 61 w (λ v. for_marks (gives_plain v)) all_plain lw) lc in
+    ap (λ k. nat_eq k w) (mark_marked c g) ∙ modus _ _ t (both_of _ _ h e)
 marks_by w c g G lw lc lg h hG false e = some_at 61 g (λ i. G i && gives w i (mark c g)) lg (both_of _ _ hG (gives_at w c g (modus _ _ (every_at 61 c (is_one_of w) (every_at 61 w (λ v. every 61 (is_one_of v)) all_ones lw) lc) h)))
 
 pub marks_sound : (w c g : ℕ) (G : ℕ → Bool) → w < 61 → c < 61 → g < 61 → takes w c ≡ true → G g ≡ true → marks w G (mark c g) ≡ true
@@ -119,38 +124,44 @@ marks_sound w c g G lw lc lg h hG = marks_by w c g G lw lc lg h hG (plain w) ref
 -- the kind of bracket of what a token is taken for
 abbrev kind_same : ℕ → ℕ → Bool
 kind_same w c = imp (takes w c) (same (accepts OPENING c) (accepts OPENING w) && (same (accepts CLOSING c) (accepts CLOSING w) && same (accepts LOUD c) (accepts LOUD w)))
+
 abbrev tells_same : ℕ → ℕ → Bool
 tells_same w c = imp (takes w c && tells w) (nat_eq c w)
+
 abbrev tells_mark : ℕ → Bool → Bool → Bool → Bool
 tells_mark c a e t = imp (tells (marked c a e t)) (nat_eq (marked c a e t) c)
+
 abbrev tells_ends : ℕ → Bool
 tells_ends c = imp (tells c) (no (accepts OPENING c))
 
 all_kinds : every 61 (λ w. every 61 (kind_same w)) ≡ true
 unfolding every takes accepts
 all_kinds = refl
+
 all_tells : every 61 (λ w. every 61 (tells_same w)) ≡ true
 unfolding every takes accepts tells
 all_tells = refl
+
 all_told : for_marks tells_mark ≡ true
 unfolding for_marks every each_bool marked accepts tells
 all_told = refl
+
 all_end : every 61 tells_ends ≡ true
 unfolding every accepts tells
 all_end = refl
 
 pub kinds : (w c : ℕ) → w < 61 → c < 61 → takes w c ≡ true → (accepts OPENING c ≡ accepts OPENING w) × (accepts CLOSING c ≡ accepts CLOSING w) × (accepts LOUD c ≡ accepts LOUD w)
 kinds w c lw lc h =
-  let t : (same (accepts OPENING c) (accepts OPENING w) && (same (accepts CLOSING c) (accepts CLOSING w) && same (accepts LOUD c) (accepts LOUD w))) ≡ true = modus _ _ (every_at 61 c (kind_same w) (every_at 61 w (λ v. every 61 (kind_same v)) all_kinds lw) lc) h in
-  (same_is _ _ (left_of _ _ t), same_is _ _ (left_of _ _ (right_of _ _ t)), same_is _ _ (right_of _ _ (right_of _ _ t)))
+    let t : (same (accepts OPENING c) (accepts OPENING w) && (same (accepts CLOSING c) (accepts CLOSING w) && same (accepts LOUD c) (accepts LOUD w))) ≡ true = modus _ _ (every_at 61 c (kind_same w) (every_at 61 w (λ v. every 61 (kind_same v)) all_kinds lw) lc) h in
+    (same_is _ _ (left_of _ _ t), same_is _ _ (left_of _ _ (right_of _ _ t)), same_is _ _ (right_of _ _ (right_of _ _ t)))
 
 -- the look ends at once
 pub ahead_ends : (x : Item) (l : List Item) → tells (number x.sign) ≡ true → ahead 0 (x ∷ l) ≡ number x.sign
 unfolding ahead tells
 ahead_ends x l h =
-  let c : ℕ = number x.sign in
-  let o : no (accepts OPENING c) ≡ true = modus _ _ (every_at 61 c tells_ends all_end (number_below x.sign)) h in
-  elim (accepts OPENING c) as (λ b. no b ≡ true → (if b then ahead (0 + 1) l else (if accepts CLOSING c then (if nat_eq 0 0 then c else ahead (0 - 1) l) else (if nat_eq 0 0 && accepts LOUD c then c else ahead 0 l))) ≡ c) [ true ↦ λ (k : no true ≡ true). cc | false ↦ λ (k : no false ≡ true). elim (accepts CLOSING c) as (λ b. (b || accepts LOUD c) ≡ true → (if b then c else (if accepts LOUD c then c else ahead 0 l)) ≡ c) [ true ↦ λ (j : (true || accepts LOUD c) ≡ true). refl | false ↦ λ (j : (false || accepts LOUD c) ≡ true). elim (accepts LOUD c) as (λ b. b ≡ true → (if b then c else ahead 0 l) ≡ c) [ true ↦ λ (i : true ≡ true). refl | false ↦ λ (i : false ≡ true). cc ] j ] h ] o
+    let c : ℕ = number x.sign in
+    let o : no (accepts OPENING c) ≡ true = modus _ _ (every_at 61 c tells_ends all_end (number_below x.sign)) h in
+    elim (accepts OPENING c) as (λ b. no b ≡ true → (if b then ahead (0 + 1) l else (if accepts CLOSING c then (if nat_eq 0 0 then c else ahead (0 - 1) l) else (if nat_eq 0 0 && accepts LOUD c then c else ahead 0 l))) ≡ c) [ true ↦ λ (k : no true ≡ true). cc | false ↦ λ (k : no false ≡ true). elim (accepts CLOSING c) as (λ b. (b || accepts LOUD c) ≡ true → (if b then c else (if accepts LOUD c then c else ahead 0 l)) ≡ c) [ true ↦ λ (j : (true || accepts LOUD c) ≡ true). refl | false ↦ λ (j : (false || accepts LOUD c) ≡ true). elim (accepts LOUD c) as (λ b. b ≡ true → (if b then c else ahead 0 l) ≡ c) [ true ↦ λ (i : true ≡ true). refl | false ↦ λ (i : false ≡ true). cc ] j ] h ] o
 
 nothing_ahead : ahead 0 [] ≡ 60
 unfolding ahead
@@ -160,13 +171,13 @@ pub ahead_told : (l : List Item) → tells (look l) ≡ true → ahead 0 l ≡ l
 unfolding look
 ahead_told [] h = nothing_ahead
 ahead_told (x ∷ l) h =
-  let c : ℕ = number x.sign in
-  let g : ℕ = look l in
-  let h2 : tells (marked c (accepts ASSIGNING g) (accepts ENDS_VALUES g) (nat_eq g 56)) ≡ true = subst (λ k. tells k ≡ true) (mark_marked c g) h in
-  let e : mark c g ≡ c = mark_marked c g ∙ eqb-true _ _ (modus _ _ (marks_at tells_mark c _ _ _ all_told (number_below x.sign)) h2) in
-  ahead_ends x l (subst (λ k. tells k ≡ true) e h) ∙ sym e
+    let c : ℕ = number x.sign in
+    let g : ℕ = look l in
+    let h2 : tells (marked c (accepts ASSIGNING g) (accepts ENDS_VALUES g) (nat_eq g 56)) ≡ true = subst (λ k. tells k ≡ true) (mark_marked c g) h in
+    let e : mark c g ≡ c = mark_marked c g ∙ eqb-true _ _ (modus _ _ (marks_at tells_mark c _ _ _ all_told (number_below x.sign)) h2) in
+    ahead_ends x l (subst (λ k. tells k ≡ true) e h) ∙ sym e
 
 pub ahead_taken : (w : ℕ) (x : Item) (l : List Item) → w < 61 → takes w (number x.sign) ≡ true → tells w ≡ true → ahead 0 (x ∷ l) ≡ w
 ahead_taken w x l lw h t =
-  let e : number x.sign ≡ w = eqb-true _ _ (modus _ _ (every_at 61 (number x.sign) (tells_same w) (every_at 61 w (λ v. every 61 (tells_same v)) all_tells lw) (number_below x.sign)) (both_of _ _ h t)) in
-  ahead_ends x l (subst (λ k. tells k ≡ true) (sym e) t) ∙ e
+    let e : number x.sign ≡ w = eqb-true _ _ (modus _ _ (every_at 61 (number x.sign) (tells_same w) (every_at 61 w (λ v. every 61 (tells_same v)) all_tells lw) (number_below x.sign)) (both_of _ _ h t)) in
+    ahead_ends x l (subst (λ k. tells k ≡ true) (sym e) t) ∙ e

@@ -17,6 +17,7 @@ mutual
   pub data Tree : Type 0 where
     Grown : Rule → Parts → Tree
     NoTree : Tree
+
   pub data Parts : Type 0 where
     end : Parts
     token : Token → Parts → Parts

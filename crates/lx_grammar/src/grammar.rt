@@ -287,65 +287,125 @@ pub fn looks_far(spot: Spot) -> bool
 
 // Sets of signs, a bit for each.
 const BEGINS_EXPR: u64 = 0x540200fa0001f;
+
 const BEGINS_COMP: u64 = 0x540200f80001f;
+
 const BEGINS_ATOM: u64 = 0x540000380001f;
+
 const BEGINS_PLACE_ARG: u64 = 0x540201fa0001f;
+
 const BEGINS_SIMPLE: u64 = 0x10540200fa0201f;
+
 const BEGINS_FILE: u64 = 0xf10;
+
 const AT_FROM: u64 = 0x200;
+
 const AT_IMPORT: u64 = 0x400;
+
 const ANY_NAME: u64 = 0x7;
+
 const AT_CLASS: u64 = 0x800;
+
 const AT_DEF: u64 = 0x1000;
+
 const AT_NEWLINE: u64 = 0x20;
+
 const AT_IF: u64 = 0x4000;
+
 const AT_FOR: u64 = 0x20000;
+
 const AT_TARGET: u64 = 0x100000000000000;
+
 const AT_CLOSE_SQUARE: u64 = 0x2000000000000;
+
 const AT_COLON: u64 = 0x10000000000000;
+
 const AT_STAR: u64 = 0x10000000;
+
 const AT_NUMBER: u64 = 0x8;
+
 const AT_TEXT: u64 = 0x10;
+
 const AT_NONE: u64 = 0x800000;
+
 const AT_TRUE: u64 = 0x1000000;
+
 const AT_FALSE: u64 = 0x2000000;
+
 const AT_OPEN_ROUND: u64 = 0x400000000000;
+
 const AT_OPEN_SQUARE: u64 = 0x1000000000000;
+
 const AT_OPEN_CURLY: u64 = 0x4000000000000;
+
 const BEGINS_FILE_LINE0: u64 = 0x600;
+
 const AT_DOT: u64 = 0x40000000000000;
+
 const AT_COMMA: u64 = 0x20000000000000;
+
 const BEGINS_PARAMETER: u64 = 0x820000000000000;
+
 const AT_ASSIGN: u64 = 0x100000000000;
+
 const AT_LAST_COMMA: u64 = 0x400000000000000;
+
 const BEGINS_NEXT_STMT: u64 = 0x10540200fa2601f;
+
 const AT_ELIF: u64 = 0x8000;
+
 const AT_ELSE: u64 = 0x10000;
+
 const AT_PASS: u64 = 0x2000;
+
 const AT_ADD_ASSIGN: u64 = 0x200000000000;
+
 const AT_OR: u64 = 0x80000;
+
 const AT_AND: u64 = 0x100000;
+
 const AT_NOT: u64 = 0x200000;
+
 const AT_EQUAL: u64 = 0x10000000000;
+
 const AT_UNEQUAL: u64 = 0x20000000000;
+
 const AT_LESS: u64 = 0x4000000000;
+
 const AT_LESS_EQUAL: u64 = 0x8000000000;
+
 const AT_GREATER: u64 = 0x40000000000;
+
 const AT_GREATER_EQUAL: u64 = 0x80000000000;
+
 const AT_IN: u64 = 0x40000;
+
 const AT_IS: u64 = 0x400000;
+
 const AT_BAR: u64 = 0x800000000;
+
 const AT_CARET: u64 = 0x1000000000;
+
 const AT_AMPERSAND: u64 = 0x400000000;
+
 const AT_SHIFT_LEFT: u64 = 0x100000000;
+
 const AT_SHIFT_RIGHT: u64 = 0x200000000;
+
 const AT_PLUS: u64 = 0x4000000;
+
 const AT_MINUS: u64 = 0x8000000;
+
 const AT_FLOOR: u64 = 0x20000000;
+
 const AT_PERCENT: u64 = 0x40000000;
+
 const AT_TILDE: u64 = 0x2000000000;
+
 const AT_POWER: u64 = 0x80000000;
+
 const BEGINS_ARGUMENTS: u64 = 0x10540201fa0001f;
+
 const AT_KEY_COMMA: u64 = 0x800000000000000;
 
 /// The row of a spot that a sign picks, if there is one.
@@ -363,9 +423,19 @@ pub fn production(spot: Spot, sign: Sign) -> Option<&'static [Symbol]>
         }
         Spot::Import => {
             if is_in(AT_FROM, sign) {
-                Some(&[Symbol::Token(Sign::From), Symbol::Node(Spot::Dotted), Symbol::Token(Sign::Import), Symbol::One(Spot::Imported), Symbol::Token(Sign::Newline)])
+                Some(&[
+                    Symbol::Token(Sign::From),
+                    Symbol::Node(Spot::Dotted),
+                    Symbol::Token(Sign::Import),
+                    Symbol::One(Spot::Imported),
+                    Symbol::Token(Sign::Newline),
+                ])
             } else if is_in(AT_IMPORT, sign) {
-                Some(&[Symbol::Token(Sign::Import), Symbol::Node(Spot::Dotted), Symbol::Token(Sign::Newline)])
+                Some(&[
+                    Symbol::Token(Sign::Import),
+                    Symbol::Node(Spot::Dotted),
+                    Symbol::Token(Sign::Newline),
+                ])
             } else {
                 None
             }
@@ -379,14 +449,37 @@ pub fn production(spot: Spot, sign: Sign) -> Option<&'static [Symbol]>
         }
         Spot::Class => {
             if is_in(AT_CLASS, sign) {
-                Some(&[Symbol::Token(Sign::Class), Symbol::Token(Sign::Name), Symbol::Token(Sign::OpenRound), Symbol::Token(Sign::Name), Symbol::Many(Spot::CommaName), Symbol::Token(Sign::CloseRound), Symbol::Token(Sign::Colon), Symbol::Token(Sign::Newline), Symbol::Token(Sign::Indent), Symbol::Maybe(Spot::Remark), Symbol::Node(Spot::Init), Symbol::Token(Sign::Dedent)])
+                Some(&[
+                    Symbol::Token(Sign::Class),
+                    Symbol::Token(Sign::Name),
+                    Symbol::Token(Sign::OpenRound),
+                    Symbol::Token(Sign::Name),
+                    Symbol::Many(Spot::CommaName),
+                    Symbol::Token(Sign::CloseRound),
+                    Symbol::Token(Sign::Colon),
+                    Symbol::Token(Sign::Newline),
+                    Symbol::Token(Sign::Indent),
+                    Symbol::Maybe(Spot::Remark),
+                    Symbol::Node(Spot::Init),
+                    Symbol::Token(Sign::Dedent),
+                ])
             } else {
                 None
             }
         }
         Spot::Init => {
             if is_in(AT_DEF, sign) {
-                Some(&[Symbol::Token(Sign::Def), Symbol::Token(Sign::Init), Symbol::Token(Sign::OpenRound), Symbol::Token(Sign::SelfName), Symbol::Many(Spot::Parameter), Symbol::Maybe(Spot::LastComma), Symbol::Token(Sign::CloseRound), Symbol::Token(Sign::Colon), Symbol::Node(Spot::Suite)])
+                Some(&[
+                    Symbol::Token(Sign::Def),
+                    Symbol::Token(Sign::Init),
+                    Symbol::Token(Sign::OpenRound),
+                    Symbol::Token(Sign::SelfName),
+                    Symbol::Many(Spot::Parameter),
+                    Symbol::Maybe(Spot::LastComma),
+                    Symbol::Token(Sign::CloseRound),
+                    Symbol::Token(Sign::Colon),
+                    Symbol::Node(Spot::Suite),
+                ])
             } else {
                 None
             }
@@ -395,7 +488,13 @@ pub fn production(spot: Spot, sign: Sign) -> Option<&'static [Symbol]>
             if is_in(BEGINS_SIMPLE, sign) {
                 Some(&[Symbol::Node(Spot::Simple)])
             } else if is_in(AT_NEWLINE, sign) {
-                Some(&[Symbol::Token(Sign::Newline), Symbol::Token(Sign::Indent), Symbol::Node(Spot::Stmt), Symbol::Many(Spot::NextStmt), Symbol::Token(Sign::Dedent)])
+                Some(&[
+                    Symbol::Token(Sign::Newline),
+                    Symbol::Token(Sign::Indent),
+                    Symbol::Node(Spot::Stmt),
+                    Symbol::Many(Spot::NextStmt),
+                    Symbol::Token(Sign::Dedent),
+                ])
             } else {
                 None
             }
@@ -413,14 +512,28 @@ pub fn production(spot: Spot, sign: Sign) -> Option<&'static [Symbol]>
         }
         Spot::If => {
             if is_in(AT_IF, sign) {
-                Some(&[Symbol::Token(Sign::If), Symbol::Node(Spot::Expr), Symbol::Token(Sign::Colon), Symbol::Node(Spot::Suite), Symbol::Many(Spot::Elif), Symbol::Maybe(Spot::Else)])
+                Some(&[
+                    Symbol::Token(Sign::If),
+                    Symbol::Node(Spot::Expr),
+                    Symbol::Token(Sign::Colon),
+                    Symbol::Node(Spot::Suite),
+                    Symbol::Many(Spot::Elif),
+                    Symbol::Maybe(Spot::Else),
+                ])
             } else {
                 None
             }
         }
         Spot::For => {
             if is_in(AT_FOR, sign) {
-                Some(&[Symbol::Token(Sign::For), Symbol::Node(Spot::Names), Symbol::Token(Sign::In), Symbol::Node(Spot::Expr), Symbol::Token(Sign::Colon), Symbol::Node(Spot::Suite)])
+                Some(&[
+                    Symbol::Token(Sign::For),
+                    Symbol::Node(Spot::Names),
+                    Symbol::Token(Sign::In),
+                    Symbol::Node(Spot::Expr),
+                    Symbol::Token(Sign::Colon),
+                    Symbol::Node(Spot::Suite),
+                ])
             } else {
                 None
             }
@@ -441,7 +554,11 @@ pub fn production(spot: Spot, sign: Sign) -> Option<&'static [Symbol]>
         }
         Spot::Values => {
             if is_in(BEGINS_EXPR, sign) {
-                Some(&[Symbol::Node(Spot::Expr), Symbol::Many(Spot::CommaExpr), Symbol::Maybe(Spot::LastComma)])
+                Some(&[
+                    Symbol::Node(Spot::Expr),
+                    Symbol::Many(Spot::CommaExpr),
+                    Symbol::Maybe(Spot::LastComma),
+                ])
             } else {
                 None
             }
@@ -450,7 +567,11 @@ pub fn production(spot: Spot, sign: Sign) -> Option<&'static [Symbol]>
             if is_in(AT_TARGET, sign) {
                 Some(&[Symbol::Token(Sign::Name)])
             } else if is_in(BEGINS_ATOM, sign) {
-                Some(&[Symbol::Node(Spot::Post), Symbol::Token(Sign::Dot), Symbol::Token(Sign::Name)])
+                Some(&[
+                    Symbol::Node(Spot::Post),
+                    Symbol::Token(Sign::Dot),
+                    Symbol::Token(Sign::Name),
+                ])
             } else {
                 None
             }
@@ -557,16 +678,29 @@ pub fn production(spot: Spot, sign: Sign) -> Option<&'static [Symbol]>
             if is_in(AT_CLOSE_SQUARE, sign) {
                 Some(&[Symbol::Node(Spot::Expr)])
             } else if is_in(AT_COLON, sign) {
-                Some(&[Symbol::Maybe(Spot::Bound), Symbol::Token(Sign::Colon), Symbol::Maybe(Spot::Bound)])
+                Some(&[
+                    Symbol::Maybe(Spot::Bound),
+                    Symbol::Token(Sign::Colon),
+                    Symbol::Maybe(Spot::Bound),
+                ])
             } else {
                 None
             }
         }
         Spot::Args => {
             if is_in(BEGINS_PLACE_ARG, sign) {
-                Some(&[Symbol::Node(Spot::PlaceArg), Symbol::Many(Spot::CommaPlaceArg), Symbol::Many(Spot::CommaNameArg), Symbol::Maybe(Spot::LastComma)])
+                Some(&[
+                    Symbol::Node(Spot::PlaceArg),
+                    Symbol::Many(Spot::CommaPlaceArg),
+                    Symbol::Many(Spot::CommaNameArg),
+                    Symbol::Maybe(Spot::LastComma),
+                ])
             } else if is_in(AT_TARGET, sign) {
-                Some(&[Symbol::Node(Spot::NameArg), Symbol::Many(Spot::CommaNameArg), Symbol::Maybe(Spot::LastComma)])
+                Some(&[
+                    Symbol::Node(Spot::NameArg),
+                    Symbol::Many(Spot::CommaNameArg),
+                    Symbol::Maybe(Spot::LastComma),
+                ])
             } else {
                 None
             }
@@ -582,7 +716,11 @@ pub fn production(spot: Spot, sign: Sign) -> Option<&'static [Symbol]>
         }
         Spot::NameArg => {
             if is_in(AT_TARGET, sign) {
-                Some(&[Symbol::Token(Sign::Name), Symbol::Token(Sign::Assign), Symbol::Node(Spot::Expr)])
+                Some(&[
+                    Symbol::Token(Sign::Name),
+                    Symbol::Token(Sign::Assign),
+                    Symbol::Node(Spot::Expr),
+                ])
             } else {
                 None
             }
@@ -601,11 +739,23 @@ pub fn production(spot: Spot, sign: Sign) -> Option<&'static [Symbol]>
             } else if is_in(AT_FALSE, sign) {
                 Some(&[Symbol::Token(Sign::False)])
             } else if is_in(AT_OPEN_ROUND, sign) {
-                Some(&[Symbol::Token(Sign::OpenRound), Symbol::Maybe(Spot::Grouped), Symbol::Token(Sign::CloseRound)])
+                Some(&[
+                    Symbol::Token(Sign::OpenRound),
+                    Symbol::Maybe(Spot::Grouped),
+                    Symbol::Token(Sign::CloseRound),
+                ])
             } else if is_in(AT_OPEN_SQUARE, sign) {
-                Some(&[Symbol::Token(Sign::OpenSquare), Symbol::Maybe(Spot::Listing), Symbol::Token(Sign::CloseSquare)])
+                Some(&[
+                    Symbol::Token(Sign::OpenSquare),
+                    Symbol::Maybe(Spot::Listing),
+                    Symbol::Token(Sign::CloseSquare),
+                ])
             } else if is_in(AT_OPEN_CURLY, sign) {
-                Some(&[Symbol::Token(Sign::OpenCurly), Symbol::Maybe(Spot::Pairs), Symbol::Token(Sign::CloseCurly)])
+                Some(&[
+                    Symbol::Token(Sign::OpenCurly),
+                    Symbol::Maybe(Spot::Pairs),
+                    Symbol::Token(Sign::CloseCurly),
+                ])
             } else {
                 None
             }
@@ -653,7 +803,11 @@ pub fn production(spot: Spot, sign: Sign) -> Option<&'static [Symbol]>
         }
         Spot::Parameter => {
             if is_in(BEGINS_PARAMETER, sign) {
-                Some(&[Symbol::Token(Sign::Comma), Symbol::Token(Sign::Name), Symbol::Maybe(Spot::Default)])
+                Some(&[
+                    Symbol::Token(Sign::Comma),
+                    Symbol::Token(Sign::Name),
+                    Symbol::Maybe(Spot::Default),
+                ])
             } else {
                 None
             }
@@ -681,14 +835,23 @@ pub fn production(spot: Spot, sign: Sign) -> Option<&'static [Symbol]>
         }
         Spot::Elif => {
             if is_in(AT_ELIF, sign) {
-                Some(&[Symbol::Token(Sign::Elif), Symbol::Node(Spot::Expr), Symbol::Token(Sign::Colon), Symbol::Node(Spot::Suite)])
+                Some(&[
+                    Symbol::Token(Sign::Elif),
+                    Symbol::Node(Spot::Expr),
+                    Symbol::Token(Sign::Colon),
+                    Symbol::Node(Spot::Suite),
+                ])
             } else {
                 None
             }
         }
         Spot::Else => {
             if is_in(AT_ELSE, sign) {
-                Some(&[Symbol::Token(Sign::Else), Symbol::Token(Sign::Colon), Symbol::Node(Spot::Suite)])
+                Some(&[
+                    Symbol::Token(Sign::Else),
+                    Symbol::Token(Sign::Colon),
+                    Symbol::Node(Spot::Suite),
+                ])
             } else {
                 None
             }
@@ -699,9 +862,17 @@ pub fn production(spot: Spot, sign: Sign) -> Option<&'static [Symbol]>
             } else if is_in(AT_NEWLINE, sign) {
                 Some(&[Symbol::Node(Spot::Values)])
             } else if is_in(AT_ASSIGN, sign) {
-                Some(&[Symbol::Node(Spot::Place), Symbol::Token(Sign::Assign), Symbol::Node(Spot::Values)])
+                Some(&[
+                    Symbol::Node(Spot::Place),
+                    Symbol::Token(Sign::Assign),
+                    Symbol::Node(Spot::Values),
+                ])
             } else if is_in(AT_ADD_ASSIGN, sign) {
-                Some(&[Symbol::Node(Spot::Place), Symbol::Token(Sign::AddAssign), Symbol::Node(Spot::Values)])
+                Some(&[
+                    Symbol::Node(Spot::Place),
+                    Symbol::Token(Sign::AddAssign),
+                    Symbol::Node(Spot::Values),
+                ])
             } else {
                 None
             }
@@ -715,7 +886,12 @@ pub fn production(spot: Spot, sign: Sign) -> Option<&'static [Symbol]>
         }
         Spot::Choice => {
             if is_in(AT_IF, sign) {
-                Some(&[Symbol::Token(Sign::If), Symbol::Node(Spot::Or), Symbol::Token(Sign::Else), Symbol::Node(Spot::Or)])
+                Some(&[
+                    Symbol::Token(Sign::If),
+                    Symbol::Node(Spot::Or),
+                    Symbol::Token(Sign::Else),
+                    Symbol::Node(Spot::Or),
+                ])
             } else {
                 None
             }
@@ -757,7 +933,11 @@ pub fn production(spot: Spot, sign: Sign) -> Option<&'static [Symbol]>
             } else if is_in(AT_IN, sign) {
                 Some(&[Symbol::Token(Sign::In), Symbol::Node(Spot::Bor)])
             } else if is_in(AT_IS, sign) {
-                Some(&[Symbol::Token(Sign::Is), Symbol::Maybe(Spot::NotWord), Symbol::Token(Sign::None)])
+                Some(&[
+                    Symbol::Token(Sign::Is),
+                    Symbol::Maybe(Spot::NotWord),
+                    Symbol::Token(Sign::None),
+                ])
             } else {
                 None
             }
@@ -834,9 +1014,17 @@ pub fn production(spot: Spot, sign: Sign) -> Option<&'static [Symbol]>
             if is_in(AT_DOT, sign) {
                 Some(&[Symbol::Token(Sign::Dot), Symbol::Token(Sign::Name)])
             } else if is_in(AT_OPEN_ROUND, sign) {
-                Some(&[Symbol::Token(Sign::OpenRound), Symbol::Maybe(Spot::Arguments), Symbol::Token(Sign::CloseRound)])
+                Some(&[
+                    Symbol::Token(Sign::OpenRound),
+                    Symbol::Maybe(Spot::Arguments),
+                    Symbol::Token(Sign::CloseRound),
+                ])
             } else if is_in(AT_OPEN_SQUARE, sign) {
-                Some(&[Symbol::Token(Sign::OpenSquare), Symbol::Node(Spot::Sub), Symbol::Token(Sign::CloseSquare)])
+                Some(&[
+                    Symbol::Token(Sign::OpenSquare),
+                    Symbol::Node(Spot::Sub),
+                    Symbol::Token(Sign::CloseSquare),
+                ])
             } else {
                 None
             }
@@ -887,7 +1075,14 @@ pub fn production(spot: Spot, sign: Sign) -> Option<&'static [Symbol]>
             if is_in(AT_CLOSE_SQUARE, sign) {
                 Some(&[Symbol::Node(Spot::Values)])
             } else if is_in(AT_FOR, sign) {
-                Some(&[Symbol::Node(Spot::Expr), Symbol::Token(Sign::For), Symbol::Node(Spot::Names), Symbol::Token(Sign::In), Symbol::Node(Spot::Or), Symbol::Maybe(Spot::Filter)])
+                Some(&[
+                    Symbol::Node(Spot::Expr),
+                    Symbol::Token(Sign::For),
+                    Symbol::Node(Spot::Names),
+                    Symbol::Token(Sign::In),
+                    Symbol::Node(Spot::Or),
+                    Symbol::Maybe(Spot::Filter),
+                ])
             } else {
                 None
             }
@@ -901,14 +1096,25 @@ pub fn production(spot: Spot, sign: Sign) -> Option<&'static [Symbol]>
         }
         Spot::Pairs => {
             if is_in(BEGINS_EXPR, sign) {
-                Some(&[Symbol::Node(Spot::Expr), Symbol::Token(Sign::Colon), Symbol::Node(Spot::Expr), Symbol::Many(Spot::CommaPair), Symbol::Maybe(Spot::LastComma)])
+                Some(&[
+                    Symbol::Node(Spot::Expr),
+                    Symbol::Token(Sign::Colon),
+                    Symbol::Node(Spot::Expr),
+                    Symbol::Many(Spot::CommaPair),
+                    Symbol::Maybe(Spot::LastComma),
+                ])
             } else {
                 None
             }
         }
         Spot::CommaPair => {
             if is_in(AT_COMMA, sign) {
-                Some(&[Symbol::Token(Sign::Comma), Symbol::Node(Spot::Expr), Symbol::Token(Sign::Colon), Symbol::Node(Spot::Expr)])
+                Some(&[
+                    Symbol::Token(Sign::Comma),
+                    Symbol::Node(Spot::Expr),
+                    Symbol::Token(Sign::Colon),
+                    Symbol::Node(Spot::Expr),
+                ])
             } else {
                 None
             }

@@ -1,2 +1,4 @@
+pub mod Falls
+pub mod Moves
 pub mod Planting
 pub mod Steps

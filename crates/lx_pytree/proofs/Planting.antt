@@ -22,17 +22,17 @@ unfolding plants parts_below
 plants_same f g n [] h e = refl
 plants_same f g n (part.Token x ∷ ps) h e = ap (λ qs. token x qs) (plants_same f g n ps (right_of true (parts_below n ps) h) e)
 plants_same f g n (part.Node id ∷ ps) h e =
-  let here : f id.place ≡ g id.place = e id.place (ltb-true _ _ (left_of (nat_lt id.place n) (parts_below n ps) h)) in
-  let rest : plants f ps ≡ plants g ps = plants_same f g n ps (right_of (nat_lt id.place n) (parts_below n ps) h) e in
-  cc
+    let here : f id.place ≡ g id.place = e id.place (ltb-true _ _ (left_of (nat_lt id.place n) (parts_below n ps) h)) in
+    let rest : plants f ps ≡ plants g ps = plants_same f g n ps (right_of (nat_lt id.place n) (parts_below n ps) h) e in
+    cc
 
 pub parts_more : (n m : ℕ) (ps : List PyPart) → n ≤ m → parts_below n ps ≡ true → parts_below m ps ≡ true
 unfolding parts_below
 parts_more n m [] le h = refl
 parts_more n m (part.Token x ∷ ps) le h = parts_more n m ps le h
 parts_more n m (part.Node id ∷ ps) le h =
-  let lt : id.place < n = ltb-true _ _ (left_of (nat_lt id.place n) (parts_below n ps) h) in
-  both_of _ _ (lt-ltb id.place m (omega arith)) (parts_more n m ps le (right_of (nat_lt id.place n) (parts_below n ps) h))
+    let lt : id.place < n = ltb-true _ _ (left_of (nat_lt id.place n) (parts_below n ps) h) in
+    both_of _ _ (lt-ltb id.place m (omega arith)) (parts_more n m ps le (right_of (nat_lt id.place n) (parts_below n ps) h))
 
 pub parts_push : (n : ℕ) (ps : List PyPart) (p : PyPart) → parts_below n ps ≡ true → part_below n p ≡ true → parts_below n (ps ++ p ∷ []) ≡ true
 unfolding parts_below
@@ -78,23 +78,23 @@ same_within zero m n at nodes h lb lm ln = absurd (omega arith)
 same_within (suc b) zero n at nodes h lb lm ln = absurd (omega arith)
 same_within (suc b) (suc m) zero at nodes h lb lm ln = absurd (omega arith)
 same_within (suc b) (suc m) (suc n) at nodes h lb lm ln =
-  plant_same (tree_within nodes m) (tree_within nodes n) at (slice_get nodes at) (λ node e. lower_at nodes at node h e) (λ i lt. same_within b m n i nodes h (omega arith) (omega arith) (omega arith))
+    plant_same (tree_within nodes m) (tree_within nodes n) at (slice_get nodes at) (λ node e. lower_at nodes at node h e) (λ i lt. same_within b m n i nodes h (omega arith) (omega arith) (omega arith))
 
 -- more nodes change no tree
 pub tree_more : (m at : ℕ) (nodes more : List PyNode) → EachLower below_node nodes → at < length nodes → tree_within (nodes ++ more) m at ≡ tree_within nodes m at
 unfolding tree_within
 tree_more zero at nodes more h lt = refl
 tree_more (suc m) at nodes more h lt =
-  ap (λ o. plant_some (tree_within (nodes ++ more) m) o) (get_front nodes more at lt)
-  ∙ plant_same (tree_within (nodes ++ more) m) (tree_within nodes m) at (slice_get nodes at) (λ node e. lower_at nodes at node h e) (λ i li. tree_more m i nodes more h (omega arith))
+    ap (λ o. plant_some (tree_within (nodes ++ more) m) o) (get_front nodes more at lt)
+    ∙ plant_same (tree_within (nodes ++ more) m) (tree_within nodes m) at (slice_get nodes at) (λ node e. lower_at nodes at node h e) (λ i li. tree_more m i nodes more h (omega arith))
 
 -- a node that is pushed hangs its parts
 pub pushed_tree : (nodes : List PyNode) (node : PyNode) → EachLower below_node nodes → parts_below (length nodes) node.parts ≡ true → tree_at (nodes ++ node ∷ []) (length nodes) ≡ Grown node.rule (plants (tree_at (nodes ++ node ∷ [])) node.parts)
 unfolding tree_at tree_within
 pushed_tree nodes node h low =
-  let got : slice_get (nodes ++ node ∷ []) (length nodes) ≡ Some node = get_last nodes node in
-  ap (λ o. plant_some (tree_within (nodes ++ node ∷ []) (length nodes)) o) got
-  ∙ ap (λ ps. Grown node.rule ps) (plants_same (tree_within (nodes ++ node ∷ []) (length nodes)) (λ i. tree_within (nodes ++ node ∷ []) (suc i) i) (length nodes) node.parts low (λ i lt. tree_more (length nodes) i nodes (node ∷ []) h lt ∙ (same_within (suc i) (length nodes) (suc i) i nodes h (omega arith) lt (omega arith) ∙ sym (tree_more (suc i) i nodes (node ∷ []) h lt))))
+    let got : slice_get (nodes ++ node ∷ []) (length nodes) ≡ Some node = get_last nodes node in
+    ap (λ o. plant_some (tree_within (nodes ++ node ∷ []) (length nodes)) o) got
+    ∙ ap (λ ps. Grown node.rule ps) (plants_same (tree_within (nodes ++ node ∷ []) (length nodes)) (λ i. tree_within (nodes ++ node ∷ []) (suc i) i) (length nodes) node.parts low (λ i lt. tree_more (length nodes) i nodes (node ∷ []) h lt ∙ (same_within (suc i) (length nodes) (suc i) i nodes h (omega arith) lt (omega arith) ∙ sym (tree_more (suc i) i nodes (node ∷ []) h lt))))
 
 pub kept_tree : (nodes : List PyNode) (node : PyNode) (i : ℕ) → EachLower below_node nodes → i < length nodes → tree_at (nodes ++ node ∷ []) i ≡ tree_at nodes i
 unfolding tree_at
@@ -102,23 +102,23 @@ kept_tree nodes node i h lt = tree_more (suc i) i nodes (node ∷ []) h lt
 
 pub hung_new : (r : Rule) (ps : List PyPart) (nodes new : List PyNode) (node : PyNode) (place : ℕ) → node ≡ record { rule = r; parts = ps } → EachLower below_node nodes → parts_below (length nodes) ps ≡ true → new ≡ nodes ++ node ∷ [] → place ≡ length nodes → IsSole ps None → IsHung r ps nodes new place
 hung_new r ps nodes new node place en h low e p sole =
-  subst (λ k. IsHung r ps nodes new k) (sym p) (subst (λ k. IsHung r ps nodes k (length nodes)) (sym e) (subst (λ k. IsHung r ps nodes (nodes ++ k ∷ []) (length nodes)) (sym en) record {
-    hangs = pushed_tree nodes (record { rule = r; parts = ps }) h low ∙ sym (sole (tree_at (nodes ++ record { rule = r; parts = ps } ∷ [])) r);
-    inside = omega (arith, length-append nodes (record { rule = r; parts = ps } ∷ []));
-    kept = λ i lt. kept_tree nodes (record { rule = r; parts = ps }) i h lt;
-    longer = omega (arith, length-append nodes (record { rule = r; parts = ps } ∷ []))
-  }))
+    subst (λ k. IsHung r ps nodes new k) (sym p) (subst (λ k. IsHung r ps nodes k (length nodes)) (sym e) (subst (λ k. IsHung r ps nodes (nodes ++ k ∷ []) (length nodes)) (sym en) record {
+      hangs = pushed_tree nodes (record { rule = r; parts = ps }) h low ∙ sym (sole (tree_at (nodes ++ record { rule = r; parts = ps } ∷ [])) r);
+      inside = omega (arith, length-append nodes (record { rule = r; parts = ps } ∷ []));
+      kept = λ i lt. kept_tree nodes (record { rule = r; parts = ps }) i h lt;
+      longer = omega (arith, length-append nodes (record { rule = r; parts = ps } ∷ []));
+    }))
 
 pub hung_sole : (r : Rule) (ps : List PyPart) (nodes : List PyNode) (id : Id PyNodes) → parts_below (length nodes) ps ≡ true → ps ≡ part.Node id ∷ [] → IsHung r ps nodes nodes id.place
 unfolding parts_below plants wrap
 hung_sole r ps nodes id low e =
-  let one : parts_below (length nodes) (part.Node id ∷ []) ≡ true = subst (λ qs. parts_below (length nodes) qs ≡ true) e low in
-  record {
-    hangs = sym (ap (λ qs. wrap r (plants (tree_at nodes) qs)) e);
-    inside = ltb-true _ _ (left_of (nat_lt id.place (length nodes)) true one);
-    kept = λ i lt. refl;
-    longer = omega arith
-  }
+    let one : parts_below (length nodes) (part.Node id ∷ []) ≡ true = subst (λ qs. parts_below (length nodes) qs ≡ true) e low in
+    record {
+      hangs = sym (ap (λ qs. wrap r (plants (tree_at nodes) qs)) e);
+      inside = ltb-true _ _ (left_of (nat_lt id.place (length nodes)) true one);
+      kept = λ i lt. refl;
+      longer = omega arith;
+    }
 
 pub hung_by : (r : Rule) (ps : List PyPart) (nodes new : List PyNode) (result : Result (Id PyNodes) NoMemory) → EachLower below_node nodes → parts_below (length nodes) ps ≡ true → MatchResult result (λ id. (id.place ≡ length nodes) × (new ≡ nodes ++ record { rule = r; parts = ps } ∷ [])) (λ e. new ≡ nodes) → IsSole ps None → IsClosed r ps nodes new result
 hung_by r ps nodes new (Ok id) h low m sole = hung_new r ps nodes new (record { rule = r; parts = ps }) id.place refl h low m.1 m.0 sole

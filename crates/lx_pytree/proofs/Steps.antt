@@ -52,33 +52,33 @@ unfolding joined
 split {l = l} {m = m} {rs = rs} d [] α e = record { between = l; first = end; second = rs; reads = done; then_reads = subst (λ g. Reads g l m rs) e d; are = refl }
 split done (σ ∷ β) α e = cc
 split {m = m} (took {s = s} {x = x} {l = l} {ps = ps} t d) (σ ∷ β) α e =
-  let same : symbol.Token s ≡ σ = cc in
-  let r : Split β α l m ps = split d β α (cc) in
-  record { between = r.between; first = token x.token r.first; second = r.second; reads = subst (λ τ. Reads (τ ∷ β) (x ∷ l) r.between (token x.token r.first)) same (took t r.reads); then_reads = r.then_reads; are = ap (λ k. token x.token k) r.are }
+    let same : symbol.Token s ≡ σ = cc in
+    let r : Split β α l m ps = split d β α (cc) in
+    record { between = r.between; first = token x.token r.first; second = r.second; reads = subst (λ τ. Reads (τ ∷ β) (x ∷ l) r.between (token x.token r.first)) same (took t r.reads); then_reads = r.then_reads; are = ap (λ k. token x.token k) r.are }
 split {l = l} {m = m} (opened {r = s} {k = k} {qs = qs} {ps = ps} t f d) (σ ∷ β) α e =
-  let same : symbol.Node s ≡ σ = cc in
-  let r : Split β α k m ps = split d β α (cc) in
-  record { between = r.between; first = child (wrap (label s) qs) r.first; second = r.second; reads = subst (λ τ. Reads (τ ∷ β) l r.between (child (wrap (label s) qs) r.first)) same (opened t f r.reads); then_reads = r.then_reads; are = ap (λ j. child (wrap (label s) qs) j) r.are }
+    let same : symbol.Node s ≡ σ = cc in
+    let r : Split β α k m ps = split d β α (cc) in
+    record { between = r.between; first = child (wrap (label s) qs) r.first; second = r.second; reads = subst (λ τ. Reads (τ ∷ β) l r.between (child (wrap (label s) qs) r.first)) same (opened t f r.reads); then_reads = r.then_reads; are = ap (λ j. child (wrap (label s) qs) j) r.are }
 split {l = l} {m = m} (inlined {r = s} {k = k} {qs = qs} {ps = ps} t f d) (σ ∷ β) α e =
-  let same : symbol.One s ≡ σ = cc in
-  let r : Split β α k m ps = split d β α (cc) in
-  record { between = r.between; first = joined qs r.first; second = r.second; reads = subst (λ τ. Reads (τ ∷ β) l r.between (joined qs r.first)) same (inlined t f r.reads); then_reads = r.then_reads; are = ap (λ j. joined qs j) r.are ∙ sym (joined_assoc qs r.first r.second) }
+    let same : symbol.One s ≡ σ = cc in
+    let r : Split β α k m ps = split d β α (cc) in
+    record { between = r.between; first = joined qs r.first; second = r.second; reads = subst (λ τ. Reads (τ ∷ β) l r.between (joined qs r.first)) same (inlined t f r.reads); then_reads = r.then_reads; are = ap (λ j. joined qs j) r.are ∙ sym (joined_assoc qs r.first r.second) }
 split {l = l} {m = m} (skipped {r = s} {ps = ps} t d) (σ ∷ β) α e =
-  let same : symbol.Maybe s ≡ σ = cc in
-  let r : Split β α l m ps = split d β α (cc) in
-  record { between = r.between; first = r.first; second = r.second; reads = subst (λ τ. Reads (τ ∷ β) l r.between (r.first)) same (skipped t r.reads); then_reads = r.then_reads; are = r.are }
+    let same : symbol.Maybe s ≡ σ = cc in
+    let r : Split β α l m ps = split d β α (cc) in
+    record { between = r.between; first = r.first; second = r.second; reads = subst (λ τ. Reads (τ ∷ β) l r.between (r.first)) same (skipped t r.reads); then_reads = r.then_reads; are = r.are }
 split {l = l} {m = m} (given {r = s} {k = k} {qs = qs} {ps = ps} t f d) (σ ∷ β) α e =
-  let same : symbol.Maybe s ≡ σ = cc in
-  let r : Split β α k m ps = split d β α (cc) in
-  record { between = r.between; first = joined qs r.first; second = r.second; reads = subst (λ τ. Reads (τ ∷ β) l r.between (joined qs r.first)) same (given t f r.reads); then_reads = r.then_reads; are = ap (λ j. joined qs j) r.are ∙ sym (joined_assoc qs r.first r.second) }
+    let same : symbol.Maybe s ≡ σ = cc in
+    let r : Split β α k m ps = split d β α (cc) in
+    record { between = r.between; first = joined qs r.first; second = r.second; reads = subst (λ τ. Reads (τ ∷ β) l r.between (joined qs r.first)) same (given t f r.reads); then_reads = r.then_reads; are = ap (λ j. joined qs j) r.are ∙ sym (joined_assoc qs r.first r.second) }
 split {l = l} {m = m} (ended {r = s} {ps = ps} t d) (σ ∷ β) α e =
-  let same : symbol.Many s ≡ σ = cc in
-  let r : Split β α l m ps = split d β α (cc) in
-  record { between = r.between; first = r.first; second = r.second; reads = subst (λ τ. Reads (τ ∷ β) l r.between (r.first)) same (ended t r.reads); then_reads = r.then_reads; are = r.are }
+    let same : symbol.Many s ≡ σ = cc in
+    let r : Split β α l m ps = split d β α (cc) in
+    record { between = r.between; first = r.first; second = r.second; reads = subst (λ τ. Reads (τ ∷ β) l r.between (r.first)) same (ended t r.reads); then_reads = r.then_reads; are = r.are }
 split {l = l} {m = m} (again {r = s} {k = k} {qs = qs} {ps = ps} t f d) (σ ∷ β) α e =
-  let same : symbol.Many s ≡ σ = cc in
-  let r : Split (symbol.Many s ∷ β) α k m ps = split d (symbol.Many s ∷ β) α (cc) in
-  record { between = r.between; first = joined qs r.first; second = r.second; reads = subst (λ τ. Reads (τ ∷ β) l r.between (joined qs r.first)) same (again t f r.reads); then_reads = r.then_reads; are = ap (λ j. joined qs j) r.are ∙ sym (joined_assoc qs r.first r.second) }
+    let same : symbol.Many s ≡ σ = cc in
+    let r : Split (symbol.Many s ∷ β) α k m ps = split d (symbol.Many s ∷ β) α (cc) in
+    record { between = r.between; first = joined qs r.first; second = r.second; reads = subst (λ τ. Reads (τ ∷ β) l r.between (joined qs r.first)) same (again t f r.reads); then_reads = r.then_reads; are = ap (λ j. joined qs j) r.are ∙ sym (joined_assoc qs r.first r.second) }
 
 pub glue : {β α : List Symbol} {l k m : List Item} {qs ps : Parts} → Reads β l k qs → Reads α k m ps → Reads (β ++ α) l m (joined qs ps)
 unfolding joined
@@ -135,8 +135,8 @@ gets_one r β α l k ps rs p g = one_by ps p g.reads g.are
 
 pub puts_one : (r : Spot) (β α : List Symbol) (l k : List Item) (ps rs : Parts) → Picked r l (Some β) → Gets ps (β ++ α) l k rs → Gets ps (symbol.One r ∷ α) l k rs
 puts_one r β α l k ps rs p g =
-  let s : Split β α l k g.more = split g.reads β _ refl in
-  record { more = joined s.first s.second; reads = inlined p s.reads s.then_reads; are = g.are ∙ ap (λ j. joined ps j) s.are }
+    let s : Split β α l k g.more = split g.reads β _ refl in
+    record { more = joined s.first s.second; reads = inlined p s.reads s.then_reads; are = g.are ∙ ap (λ j. joined ps j) s.are }
 
 not_one_by : {r : Spot} {α : List Symbol} {l k : List Item} {more : Parts} → Picked r l None → Reads (symbol.One r ∷ α) l k more → ⊥
 not_one_by p (inlined t f d) = cc
@@ -154,8 +154,8 @@ gets_maybe r β α l k ps rs p g = maybe_by ps p g.reads g.are
 
 pub puts_maybe : (r : Spot) (β α : List Symbol) (l k : List Item) (ps rs : Parts) → Picked r l (Some β) → Gets ps (β ++ α) l k rs → Gets ps (symbol.Maybe r ∷ α) l k rs
 puts_maybe r β α l k ps rs p g =
-  let s : Split β α l k g.more = split g.reads β _ refl in
-  record { more = joined s.first s.second; reads = given p s.reads s.then_reads; are = g.are ∙ ap (λ j. joined ps j) s.are }
+    let s : Split β α l k g.more = split g.reads β _ refl in
+    record { more = joined s.first s.second; reads = given p s.reads s.then_reads; are = g.are ∙ ap (λ j. joined ps j) s.are }
 
 skip_by : (ps : Parts) {r : Spot} {α : List Symbol} {l k : List Item} {more rs : Parts} → Picked r l None → Reads (symbol.Maybe r ∷ α) l k more → rs ≡ joined ps more → Gets ps α l k rs
 skip_by ps p (skipped {ps = b} t d) e = record { more = b; reads = d; are = e }
@@ -177,8 +177,8 @@ gets_many r β α l k ps rs p g = many_by ps p g.reads g.are
 
 pub puts_many : (r : Spot) (β α : List Symbol) (l k : List Item) (ps rs : Parts) → Picked r l (Some β) → Gets ps (β ++ symbol.Many r ∷ α) l k rs → Gets ps (symbol.Many r ∷ α) l k rs
 puts_many r β α l k ps rs p g =
-  let s : Split β (symbol.Many r ∷ α) l k g.more = split g.reads β _ refl in
-  record { more = joined s.first s.second; reads = again p s.reads s.then_reads; are = g.are ∙ ap (λ j. joined ps j) s.are }
+    let s : Split β (symbol.Many r ∷ α) l k g.more = split g.reads β _ refl in
+    record { more = joined s.first s.second; reads = again p s.reads s.then_reads; are = g.are ∙ ap (λ j. joined ps j) s.are }
 
 stop_by : (ps : Parts) {r : Spot} {α : List Symbol} {l k : List Item} {more rs : Parts} → Picked r l None → Reads (symbol.Many r ∷ α) l k more → rs ≡ joined ps more → Gets ps α l k rs
 stop_by ps p (ended {ps = b} t d) e = record { more = b; reads = d; are = e }

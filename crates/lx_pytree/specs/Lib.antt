@@ -1,4 +1,5 @@
 pub mod Below
 pub mod Machine
+pub mod Reading
 pub mod Trees
 pub mod Weights

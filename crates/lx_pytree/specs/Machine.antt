@@ -2,9 +2,10 @@
 use Rattle.std.specs.Prelude.{ℕ, Bool, true, false, List, [], ◌∷◌, ◌≡◌, ◌<◌, ◌≤◌, ◌+◌, ◌-◌, ◌*◌, ◌↔◌, ◌&&◌, length, reverse, drop, max, Option, Some, None, Result, Ok, Err, slice_get}
 use Rattle.lx_grammar.specs.declared.sign.Item.{Item}
 use Rattle.lx_grammar.specs.declared.grammar.Spot.{Spot}
+use Rattle.lx_grammar.specs.declared.grammar.Spot.TheVariants as spot
 use Rattle.lx_grammar.specs.declared.grammar.Symbol.{Symbol}
 use Rattle.lx_grammar.specs.declared.grammar.Symbol.TheVariants as symbol
-use Rattle.lx_grammar.specs.Derives.{Tree, Parts, end, child, joined, wrap, label}
+use Rattle.lx_grammar.specs.Derives.{Tree, Parts, end, child, joined, wrap, label, IsTreeOf}
 use Rattle.lx_grammar.specs.Reads.{Reads}
 use Rattle.lx_grammar.specs.Ahead.{view}
 use Rattle.lx_grammar.specs.Grammar.{rules}
@@ -52,8 +53,8 @@ cost (step.Close ∷ S) = cost S
 cost (step.Do (symbol.Token s) ∷ S) = 0
 cost (step.Do (symbol.Node r) ∷ S) = weight r
 cost (step.Do (symbol.One r) ∷ S) = weight r
-cost (step.Do (symbol.Maybe r) ∷ S) = weight r + cost S
-cost (step.Do (symbol.Many r) ∷ S) = weight r + cost S
+cost (step.Do (symbol.Maybe r) ∷ S) = max (weight r) (cost S)
+cost (step.Do (symbol.Many r) ∷ S) = max (weight r) (cost S)
 
 unfoldable pub opens_below : ℕ → List Open → Bool
 opens_below n [] = true
@@ -84,10 +85,24 @@ pub record IsWhole (items : List Item) (old : Machine) (S : List Step) (new : Ma
 abbrev pub Turns : List Item → Machine → List Step → Machine → Result Turn Stop → Type 0
 Turns items old S new (Ok turn.On) = Moves items old S new
 Turns items old S new (Ok (turn.Done id)) = IsWhole items old S new id.place
-Turns items old S new (Err stop.Wrong) = (t : Tree) → EndsIn items old S t → ⊥
+Turns items old S new (Err (stop.Wrong at)) = (t : Tree) → EndsIn items old S t → ⊥
 Turns items old S new (Err stop.NoMemory) = Unit {0}
 
 -- the row that is picked here, if there is one
 abbrev pub IsRowAt : List Item → Machine → Spot → Option (Bor (List Symbol)) → Type 0
 IsRowAt items m r (Some row) = slice_get (rules r) (pick r (view r (drop m.at items))) ≡ Some row.now
 IsRowAt items m r None = slice_get (rules r) (pick r (view r (drop m.at items))) ≡ None
+
+-- nothing is read, and a file is to be
+pub record IsStart (m : Machine) : Type 0 where
+  pub nodes : m.nodes ≡ []
+  pub pending : m.pending.items ≡ step.Do (symbol.Node spot.File) ∷ []
+  pub opens : m.opens.items ≡ []
+  pub spot : m.current.spot ≡ spot.File
+  pub parts : m.current.parts ≡ []
+  pub at : m.at ≡ 0
+
+-- the state's trees are those of the whole list
+pub record IsReading (items : List Item) (m : Machine) : Type 0 where
+  pub sound : IsSound m
+  pub trees : (t : Tree) → EndsIn items m (reverse m.pending.items) t ↔ IsTreeOf items t

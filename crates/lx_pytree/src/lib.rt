@@ -2,6 +2,10 @@
 #![tactic(auto)]
 
 mod machine;
+pub mod reading;
+#[cfg(test)]
+mod tests;
 pub mod tree;
 
+pub use reading::read;
 pub use tree::{PyNode, PyNodes, PyPart, Tree};

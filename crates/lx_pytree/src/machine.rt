@@ -4,14 +4,14 @@
 ghost use Rattle.std.specs.Prelude.{◌≡◌, ◌++◌, ◌∷◌, [], reverse, map, drop, IfOk, OnOk, true, false};
 ghost use Rattle.lx_grammar.specs.Derives.{takes};
 ghost use Rattle.lx_grammar.specs.Numbers.{number};
-ghost use Rattle.lx_pytree.specs.Machine.{IsRowAt, IsSound, Turns};
+ghost use Rattle.lx_pytree.specs.Machine.{IsRowAt, IsSound, IsStart, Turns};
 ghost use Rattle.lx_pytree.specs.declared.machine.Step.TheVariants.{Do, Close};
 ghost use Rattle.lx_grammar.specs.declared.grammar.Symbol.TheVariants.{Token, Node, One, Maybe, Many};
 
 use crate::tree::{PyNode, PyNodes, PyPart, closed};
 use lx_arena::{Arena, Id};
 use lx_grammar::{Item, Sign, Spot, Symbol, number_of, production, rule_of, view_of};
-use lx_text::List;
+use lx_text::{List, NoMemory};
 use std::alloc::Global;
 use std::mem::replace;
 
@@ -29,10 +29,10 @@ pub struct Open {
     pub parts: List<PyPart>,
 }
 
-// Why no tree was read.
+// Why no tree was read: at this place no token fits; or memory ran out.
 #[derive(Drop)]
 pub enum Stop {
-    Wrong,
+    Wrong(usize),
     NoMemory,
 }
 
@@ -78,17 +78,66 @@ fn push_row(pending: &mut Vec<Step>, row: &[Symbol]) -> Result<(), Stop>
 }
 
 impl Machine {
+    // Nothing is read, and a file is to be.
+    pub fn new(alloc: Global) -> Result<Machine, NoMemory>
+        ensures { IfOk result IsStart }
+    {
+        let mut pending = Vec::new(alloc);
+        let Ok(()) = pending.push(Step::Do(Symbol::Node(Spot::File))) else {
+            return Err(NoMemory);
+        };
+        Ok(Machine {
+            alloc,
+            nodes: Arena::new(alloc),
+            pending,
+            opens: Vec::new(alloc),
+            current: Open {
+                spot: Spot::File,
+                parts: List::new(alloc),
+            },
+            at: 0,
+        })
+    }
+
+    // Does the next step.
+    pub fn step(&mut self, items: &[Item]) -> Result<Turn, Stop>
+        requires { IsSound self.old }
+        ensures { Turns items.now self.old (reverse self.old.pending.items) self.new result }
+    {
+        let Some(top) = self.pending.pop() else {
+            return self.close(items);
+        };
+        match top {
+            Step::Close => self.close(items),
+            Step::Do(symbol) => self.go_on(items, symbol),
+        }
+    }
+
+    // Reads a symbol.
+    fn go_on(&mut self, items: &[Item], symbol: Symbol) -> Result<Turn, Stop>
+        requires { IsSound self.old }
+        ensures { Turns items.now self.old (Do symbol ∷ reverse self.old.pending.items) self.new result }
+    {
+        match symbol {
+            Symbol::Token(wanted) => self.take(items, wanted),
+            Symbol::Node(spot) => self.open(items, spot),
+            Symbol::One(spot) => self.inline(items, spot),
+            Symbol::Maybe(spot) => self.choose(items, spot),
+            Symbol::Many(spot) => self.repeat(items, spot),
+        }
+    }
+
     // Takes a token.
-    pub fn take(&mut self, items: &[Item], wanted: Sign) -> Result<Turn, Stop>
+    fn take(&mut self, items: &[Item], wanted: Sign) -> Result<Turn, Stop>
         requires { IsSound self.old }
         ensures { Turns items.now self.old (Do (Token wanted) ∷ reverse self.old.pending.items) self.new result }
     {
         if self.at >= items.len() {
-            return Err(Stop::Wrong);
+            return Err(Stop::Wrong(self.at));
         }
         let item = items[self.at];
         if !stands_for(wanted, item.sign) {
-            return Err(Stop::Wrong);
+            return Err(Stop::Wrong(self.at));
         }
         let Ok(()) = self.current.parts.push(PyPart::Token(item.token)) else {
             return Err(Stop::NoMemory);
@@ -98,12 +147,12 @@ impl Machine {
     }
 
     // Opens a node.
-    pub fn open(&mut self, items: &[Item], spot: Spot) -> Result<Turn, Stop>
+    fn open(&mut self, items: &[Item], spot: Spot) -> Result<Turn, Stop>
         requires { IsSound self.old }
         ensures { Turns items.now self.old (Do (Node spot) ∷ reverse self.old.pending.items) self.new result }
     {
         let Some(row) = self.row(items, spot) else {
-            return Err(Stop::Wrong);
+            return Err(Stop::Wrong(self.at));
         };
         let inner = Open {
             spot,
@@ -123,12 +172,12 @@ impl Machine {
     }
 
     // Reads a group once.
-    pub fn inline(&mut self, items: &[Item], spot: Spot) -> Result<Turn, Stop>
+    fn inline(&mut self, items: &[Item], spot: Spot) -> Result<Turn, Stop>
         requires { IsSound self.old }
         ensures { Turns items.now self.old (Do (One spot) ∷ reverse self.old.pending.items) self.new result }
     {
         let Some(row) = self.row(items, spot) else {
-            return Err(Stop::Wrong);
+            return Err(Stop::Wrong(self.at));
         };
         let Ok(()) = push_row(&mut self.pending, row) else {
             return Err(Stop::NoMemory);
@@ -137,7 +186,7 @@ impl Machine {
     }
 
     // Reads a group, or passes it by.
-    pub fn choose(&mut self, items: &[Item], spot: Spot) -> Result<Turn, Stop>
+    fn choose(&mut self, items: &[Item], spot: Spot) -> Result<Turn, Stop>
         requires { IsSound self.old }
         ensures { Turns items.now self.old (Do (Maybe spot) ∷ reverse self.old.pending.items) self.new result }
     {
@@ -151,7 +200,7 @@ impl Machine {
     }
 
     // Reads a group and comes back to it, or passes it by.
-    pub fn repeat(&mut self, items: &[Item], spot: Spot) -> Result<Turn, Stop>
+    fn repeat(&mut self, items: &[Item], spot: Spot) -> Result<Turn, Stop>
         requires { IsSound self.old }
         ensures { Turns items.now self.old (Do (Many spot) ∷ reverse self.old.pending.items) self.new result }
     {
@@ -168,7 +217,7 @@ impl Machine {
     }
 
     // Closes the innermost open node.
-    pub fn close(&mut self, items: &[Item]) -> Result<Turn, Stop>
+    fn close(&mut self, items: &[Item]) -> Result<Turn, Stop>
         requires { IsSound self.old }
         ensures top { Turns items.now self.old (Close ∷ reverse self.old.pending.items) self.new result }
         ensures end { self.old.pending.items ≡ [] → Turns items.now self.old [] self.new result }
@@ -177,7 +226,7 @@ impl Machine {
         match outer {
             None => {
                 if self.at < items.len() {
-                    return Err(Stop::Wrong);
+                    return Err(Stop::Wrong(self.at));
                 }
                 let parts = replace(&mut self.current.parts, List::new(self.alloc));
                 let Ok(id) = closed(&mut self.nodes, rule_of(self.current.spot), parts) else {
@@ -210,5 +259,9 @@ impl Machine {
 fn rest_of(items: &[Item], at: usize) -> &[Item]
     ensures { result.now ≡ drop at items.now }
 {
-    if at < items.len() { &items[at..] } else { &items[items.len()..] }
+    if at < items.len() {
+        &items[at..]
+    } else {
+        &items[items.len()..]
+    }
 }

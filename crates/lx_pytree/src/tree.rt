@@ -77,7 +77,11 @@ fn sole(parts: &[PyPart]) -> Option<Id<PyNodes>>
 }
 
 /// The node of a rule with these parts; of a rule whose only part is one node, that node.
-pub fn closed(nodes: &mut Arena<PyNode>, rule: Rule, parts: List<PyPart>) -> Result<Id<PyNodes>, NoMemory>
+pub fn closed(
+    nodes: &mut Arena<PyNode>,
+    rule: Rule,
+    parts: List<PyPart>,
+) -> Result<Id<PyNodes>, NoMemory>
     requires { parts_below (length nodes.old) parts ≡ true }
     ensures { IsClosed rule parts nodes.old nodes.new result }
 {
