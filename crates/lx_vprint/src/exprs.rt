@@ -86,7 +86,12 @@ pub fn put_expr(out: &mut Text, exprs: &Arena<VExpr>, id: ExprId) -> Result<(), 
 
 // The further parts of `{}`, each behind a comma.
 #[cycle(put)]
-fn put_more(out: &mut Text, exprs: &Arena<VExpr>, ids: &[ExprId], bound: usize) -> Result<(), NoMemory>
+fn put_more(
+    out: &mut Text,
+    exprs: &Arena<VExpr>,
+    ids: &[ExprId],
+    bound: usize,
+) -> Result<(), NoMemory>
     requires below { IsTrue (are_below ids.now bound) }
     requires within { bound ≤ length exprs.now }
     ensures { OnOk result (out.new ≡ out.old ++ more_text (plants (tree_at exprs.now) ids.now)) }

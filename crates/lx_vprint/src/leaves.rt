@@ -79,7 +79,7 @@ pub fn binary_sign(op: BinOp) -> &'static [u8]
 
 /// Four blanks for each level.
 #[tactic(auto, using(crate::proofs::Margins::margin_more))]
-pub fn margin(out: &mut Text, levels: u64) -> Result<(), NoMemory>
+pub fn margin(out: &mut Text, levels: u128) -> Result<(), NoMemory>
     ensures { OnOk result (out.new ≡ out.old ++ indent levels) }
 {
     for _ in 0..levels {

@@ -3,3 +3,8 @@
 
 pub mod exprs;
 pub mod leaves;
+pub mod parts;
+pub mod stmts;
+pub mod whole;
+
+pub use whole::{print, print_parts};

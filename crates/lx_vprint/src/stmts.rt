@@ -1,0 +1,169 @@
+//! Statements.
+
+ghost use Rattle.std.specs.Prelude.{◌≡◌, ◌++◌, ◌+◌, ◌^◌, ◌<◌, ◌≤◌, length, codes, IsTrue, OnOk};
+ghost use Rattle.lx_vtext.specs.Printed.{indent, expr_text, target_text, stmt_text, else_text, block_text, sets_text};
+ghost use Rattle.lx_vtext.specs.Tree as tree;
+ghost use Rattle.lx_vtree.specs.Trees.{tree_at};
+ghost use Rattle.lx_vtree.specs.Stmts.{plant_target, plant_block, plant_else, stmt_at, are_stmts_below, is_else_below, is_target_placed, StmtsPlaced};
+
+use crate::exprs::put_expr;
+use crate::leaves::{margin, range};
+use lx_arena::Arena;
+use lx_text::{List, NoMemory, Text};
+use lx_vtree::{ExprId, StmtId, VExpr, VStmt, VTarget, stmt};
+
+/// The text of what an assignment writes.
+pub fn put_target(out: &mut Text, exprs: &Arena<VExpr>, target: &VTarget) -> Result<(), NoMemory>
+    requires { IsTrue (is_target_placed (length exprs.now) target.now) }
+    ensures { OnOk result (out.new ≡ out.old ++ target_text (plant_target (tree_at exprs.now) target.now)) }
+{
+    match target {
+        VTarget::Whole(name) => {
+            out.word(name.as_bytes())?;
+        }
+        VTarget::Part { name, hi, lo } => {
+            out.word(name.as_bytes())?;
+            range(out, *hi, *lo)?;
+        }
+        VTarget::WholeWord { name, index } => {
+            out.word(name.as_bytes())?;
+            out.word(b"[")?;
+            put_expr(out, exprs, *index)?;
+            out.word(b"]")?;
+        }
+        VTarget::PartWord {
+            name,
+            index,
+            hi,
+            lo,
+        } => {
+            out.word(name.as_bytes())?;
+            out.word(b"[")?;
+            put_expr(out, exprs, *index)?;
+            out.word(b"]")?;
+            range(out, *hi, *lo)?;
+        }
+    }
+    Ok(())
+}
+
+fn sign(at_once: bool) -> &'static [u8]
+    ensures { result.now ≡ sets_text at_once }
+{
+    if at_once { b" = " } else { b" <= " }
+}
+
+// `target = value;`, or `target <= value;`
+fn put_assignment(
+    out: &mut Text,
+    exprs: &Arena<VExpr>,
+    levels: u128,
+    target: &VTarget,
+    at_once: bool,
+    value: ExprId,
+) -> Result<(), NoMemory>
+    requires target { IsTrue (is_target_placed (length exprs.now) target.now) }
+    requires value { value.place < length exprs.now }
+    ensures { OnOk result (out.new ≡ out.old ++ stmt_text levels (tree.Assign (plant_target (tree_at exprs.now) target.now) at_once (tree_at exprs.now value.place))) }
+{
+    margin(out, levels)?;
+    put_target(out, exprs, target)?;
+    out.word(sign(at_once))?;
+    put_expr(out, exprs, value)?;
+    out.word(b";\n")?;
+    Ok(())
+}
+
+// `if (cond) begin`
+fn put_if(out: &mut Text, exprs: &Arena<VExpr>, levels: u128, cond: ExprId) -> Result<(), NoMemory>
+    requires { cond.place < length exprs.now }
+    ensures { OnOk result (out.new ≡ out.old ++ (indent levels ++ codes "if (" ++ expr_text (tree_at exprs.now cond.place) ++ codes ") begin\n")) }
+{
+    margin(out, levels)?;
+    out.word(b"if (")?;
+    put_expr(out, exprs, cond)?;
+    out.word(b") begin\n")?;
+    Ok(())
+}
+
+/// The text of the statement at a place, with so many levels of indentation.
+#[cycle(put)]
+pub fn put_stmt(
+    out: &mut Text,
+    exprs: &Arena<VExpr>,
+    stmts: &Arena<VStmt>,
+    levels: u128,
+    id: StmtId,
+) -> Result<(), NoMemory>
+    requires place { id.place < length stmts.now }
+    requires placed { StmtsPlaced (length exprs.now) stmts.now }
+    requires deep { levels + id.place + 1 < 2 ^ 128 }
+    ensures { OnOk result (out.new ≡ out.old ++ stmt_text levels (stmt_at (tree_at exprs.now) stmts.now id.place)) }
+{
+    match stmt(exprs, stmts, id) {
+        VStmt::Assign {
+            target,
+            at_once,
+            value,
+        } => {
+            put_assignment(out, exprs, levels, target, *at_once, *value)?;
+        }
+        VStmt::When { cond, so, other } => {
+            put_if(out, exprs, levels, *cond)?;
+            put_block(out, exprs, stmts, levels + 1, so.as_slice(), id.place)?;
+            put_else(out, exprs, stmts, levels, other, id.place)?;
+            margin(out, levels)?;
+            out.word(b"end\n")?;
+        }
+    }
+    Ok(())
+}
+
+// `end else begin` and the statements, or nothing where there is no `else`.
+#[cycle(put)]
+fn put_else(
+    out: &mut Text,
+    exprs: &Arena<VExpr>,
+    stmts: &Arena<VStmt>,
+    levels: u128,
+    other: &Option<List<StmtId>>,
+    bound: usize,
+) -> Result<(), NoMemory>
+    requires below { IsTrue (is_else_below other.now bound) }
+    requires within { bound ≤ length stmts.now }
+    requires placed { StmtsPlaced (length exprs.now) stmts.now }
+    requires deep { levels + bound + 1 < 2 ^ 128 }
+    ensures { OnOk result (out.new ≡ out.old ++ else_text levels (plant_else (stmt_at (tree_at exprs.now) stmts.now) other.now)) }
+{
+    match other {
+        None => Ok(()),
+        Some(ids) => {
+            margin(out, levels)?;
+            out.word(b"end else begin\n")?;
+            put_block(out, exprs, stmts, levels + 1, ids.as_slice(), bound)?;
+            Ok(())
+        }
+    }
+}
+
+/// The texts of the statements at these places, each lower than `bound`.
+#[cycle(put)]
+pub fn put_block(
+    out: &mut Text,
+    exprs: &Arena<VExpr>,
+    stmts: &Arena<VStmt>,
+    levels: u128,
+    ids: &[StmtId],
+    bound: usize,
+) -> Result<(), NoMemory>
+    requires below { IsTrue (are_stmts_below ids.now bound) }
+    requires within { bound ≤ length stmts.now }
+    requires placed { StmtsPlaced (length exprs.now) stmts.now }
+    requires deep { levels + bound < 2 ^ 128 }
+    ensures { OnOk result (out.new ≡ out.old ++ block_text levels (plant_block (stmt_at (tree_at exprs.now) stmts.now) ids.now)) }
+{
+    for id in ids {
+        put_stmt(out, exprs, stmts, levels, *id)?;
+    }
+    Ok(())
+}
