@@ -1,18 +1,15 @@
-//! The types of a circuit and of the system round it.
-#![tactic(auto)]
-
-pub mod places;
-
-pub use places::{BankWish, Fix, Numbered, Placement, Region, RegionWish, Wishes};
-//! Circuits of FHDL as plain data: expressions in an arena, statements, signals and designs, and the values of expressions.
+//! Circuits of FHDL as plain data: expressions in an arena, statements, signals and designs, the values of
+//! expressions, and where the parts of a system are wished.
 #![tactic(auto)]
 
 pub mod design;
 pub mod eval;
 pub mod exprs;
+pub mod places;
 pub mod steps;
 
 pub use design::{Arm, Branch, Design, Domain, Signal, Stmt, SyncPart, Target};
 pub use eval::{eval_into, eval_node};
 pub use exprs::{Expr, ExprId, Exprs, InExprs, SigId};
+pub use places::{BankWish, Fix, Numbered, Placement, Region, RegionWish, Wishes};
 pub use steps::Steps;
