@@ -4,6 +4,7 @@
 pub mod design;
 pub mod eval;
 pub mod exprs;
+pub mod laws;
 pub mod steps;
 
 pub use design::{Arm, Branch, Design, Domain, Signal, Stmt, SyncPart, Target};
