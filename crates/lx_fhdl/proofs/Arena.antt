@@ -1,26 +1,26 @@
 -- Nodes of an arena: their shapes are small, and their values fit.
-use Rattle.std.proofs.Common.{◌≡◌, ℕ, ◌+◌, ◌-◌, ◌*◌, ◌^◌, ◌<◌, ◌≤◌, Bool, true, false, cond, max, ◌&&◌, ◌||◌, List, [], ◌∷◌, length, refl, sym, ◌∙◌, ap, subst, arith, ◌⊎◌, inl, inr, suc, zero, nat_lt}
+use Rattle.std.proofs.Common.{◌≡◌, ℕ, ◌-◌, ◌*◌, ◌^◌, ◌<◌, ◌≤◌, Bool, true, false, cond, ◌&&◌, ◌||◌, List, [], ◌∷◌, length, refl, sym, ◌∙◌, ap, subst, arith, inl, inr, suc, zero, nat_lt}
 use Rattle.std.specs.Int.{w128}
 use mir.Val.{to_z, of_z}
 use Rattle.std.proofs.lemmas.Int.{to_z-of_z}
-use Rattle.std.specs.Prelude.{FitsSigned, ℤ, pos, Option, Some, None, slice_get, IfSome, IsTrue, nat_le, nat_eq, not}
+use Rattle.std.specs.Prelude.{FitsSigned, ℤ, pos, Option, Some, None, slice_get, IfSome, IsTrue, nat_le, nat_eq}
 use Rattle.std.proofs.lemmas.Bool.{ltb-true, leb-true, eqb-false, and_parts, cases_lt}
 use Rattle.std.proofs.lemmas.Nat.{pow_pos, pow-add, mul-add-lt, mul-le}
 use Rattle.lx_num.specs.declared.Shape.{Shape}
-use Rattle.lx_num.specs.Ints.{modulo, FitsBits, Fits, shape, unsigned}
+use Rattle.lx_num.specs.Ints.{modulo, FitsBits, Fits, shape}
 use Rattle.lx_num.proofs.Ints.{modulo-below}
 use Rattle.lx_num.proofs.Ranges.{fits_pos, fits_wider, FitsBits-wrap_bits}
 use Rattle.lx_arena.specs.Lower.{EachLower}
 use Rattle.lx_circuit.specs.declared.WidthFault.{WidthFault}
-use Rattle.lx_circuit.specs.declared.WidthFault.TheVariants.{TooWide, SignedShift, BadSlice, BadWidth}
-use Rattle.lx_circuit.specs.Shapes.{joined, joined_bits, bits_sum, some_signed, widest, pick_shape, unary_shape, binary_shape, too_wide, index_fault, constant_fault, replicate_fault, slice_fault, pick_fault}
-use Rattle.lx_circuit.specs.Values.{Values, cat_pattern, nth_or_last, count_of, mux_value, pick_value}
+use Rattle.lx_circuit.specs.declared.WidthFault.TheVariants.{BadSlice, BadWidth}
+use Rattle.lx_circuit.specs.Shapes.{joined, joined_bits, bits_sum, some_signed, widest, pick_shape, unary_shape, too_wide, index_fault, constant_fault, replicate_fault, slice_fault}
+use Rattle.lx_circuit.specs.Values.{cat_pattern, nth_or_last, count_of}
 use Rattle.lx_fhdl.specs.Below.{ExprId, all_below, expr_below}
 use Rattle.lx_fhdl.specs.Nodes.{IsSmall, EachPlace, EachChild, HasParts, FitsSignal, IsNode, IsShaped, IsFit, IsKnown, shape_at, shapes_at, value_at, values_at, node_shape, node_fault, node_value}
 use Rattle.lx_fhdl.specs.declared.exprs.Expr.{Expr}
 use Rattle.lx_fhdl.specs.declared.exprs.Expr.TheVariants.{Const, Sig, Unary, Binary, Mux, Cat, Pick, Replicate, Slice}
 use Rattle.lx_fhdl.proofs.Fitting.{fits_joined, fits_copies, fits_field, fits_mux, fits_zero}
-use Rattle.lx_fhdl.proofs.Operators.{binary_fits, binary_small, unary_fits, unary_some, joined_some, not_wide, none_left, none_right, by_none}
+use Rattle.lx_fhdl.proofs.Operators.{binary_fits, binary_small, unary_fits, unary_some, joined_some, not_wide, none_right, by_none}
 
 -- a fact of all lower places is one of each child
 pub each_place : (P : ℕ → Type 0) (n : ℕ) (is : List ExprId) → ((k : ℕ) → k < n → P k) → all_below n is ≡ true → EachPlace P is

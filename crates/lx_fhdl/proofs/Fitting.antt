@@ -1,21 +1,20 @@
 -- The values of operators fit their shapes.
-use Rattle.std.proofs.Common.{◌≡◌, ℕ, ◌+◌, ◌-◌, ◌*◌, ◌/◌, ◌%◌, ◌^◌, ◌<◌, ◌≤◌, Bool, true, false, cond, max, min, not, ◌||◌, List, [], ◌∷◌, refl, sym, ◌∙◌, ap, subst, arith, ◌⊎◌, inl, inr, zero, suc, neg_ℤ, length}
-use Rattle.std.specs.Prelude.{ℤ, pos, negsuc, Option, Some, None, ◌+ℤ◌, ◌-ℤ◌, ◌*ℤ◌, bit_and, bit_or, bit_xor, int_lt}
-use Rattle.std.specs.Ordering.{int_eq}
+use Rattle.std.proofs.Common.{◌≡◌, ℕ, ◌+◌, ◌-◌, ◌*◌, ◌/◌, ◌^◌, ◌<◌, ◌≤◌, Bool, true, false, ◌||◌, refl, ◌∙◌, ap, arith, zero, suc, neg_ℤ}
+use Rattle.std.specs.Prelude.{ℤ, pos, negsuc, ◌+ℤ◌, ◌-ℤ◌, ◌*ℤ◌, bit_and, bit_or, bit_xor}
 use Rattle.std.specs.Int.RustNames.{unsigned_abs}
 use Rattle.std.proofs.Math.Nat.{pow-le-pow_right, two-pow-succ}
 use Rattle.std.proofs.lemmas.Bool.{false≢true, cond_both}
 use Rattle.std.proofs.lemmas.Int.{ints, unsigned_abs-mul}
-use Rattle.std.proofs.lemmas.Nat.{pow_pos, pow_below, pow-add, mul-le, mul-lt, mul-add-lt, shl_below, shr_le, mod_below, or_lt, xor_lt, and_le_l, and_le_r}
+use Rattle.std.proofs.lemmas.Nat.{pow_pos, pow_below, pow-add, mul-le, mul-lt, mul-add-lt, shl_below, shr_le, or_lt, xor_lt, and_le_l}
 use borrow.Author.Differences.{up, down}
 use Rattle.lx_num.specs.declared.Shape.{Shape}
-use Rattle.lx_num.specs.Ints.{modulo, floor_div, FitsBits, Fits, shape, unsigned, field_of}
+use Rattle.lx_num.specs.Ints.{modulo, floor_div, FitsBits, Fits, unsigned, field_of}
 use Rattle.lx_num.specs.Bits.{int_not, int_and, int_or, int_xor}
 use Rattle.lx_num.specs.Fewest.{magnitude_of}
 use Rattle.lx_num.proofs.Ints.{modulo-below, halves}
 use Rattle.lx_num.proofs.Ranges.{fits_unsigned, unsigned_fits, fits_signed, signed_fits, fits_pos, pos_fits, negative_fits, fits_wider, fits_as_signed}
 use Rattle.lx_circuit.specs.Shapes.{extra, joined_bits, joined}
-use Rattle.lx_circuit.specs.Values.{flag, count_of, is_zero, mux_value, cat_pattern, copies, replicate_value, nth_or_last, pick_value}
+use Rattle.lx_circuit.specs.Values.{flag, count_of, is_zero, mux_value, copies, replicate_value}
 
 -- a signed value by its magnitude
 pub fits_from_magnitude : (n : ℕ) (z : ℤ) → magnitude_of z < 2 ^ (n - 1) → FitsBits n true z

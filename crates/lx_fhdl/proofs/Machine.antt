@@ -1,6 +1,6 @@
 -- What the code's numbers of 128 bits are, over plain variables.
-use Rattle.std.proofs.Common.{◌≡◌, ℕ, ◌+◌, ◌-◌, ◌*◌, ◌/◌, ◌%◌, ◌^◌, ◌<◌, ◌≤◌, Bool, true, false, max, min, refl, sym, ◌∙◌, ap, subst, arith, ◌⊎◌, inl, inr, suc, neg_ℤ}
-use Rattle.std.specs.Prelude.{ℤ, pos, negsuc, FitsSigned, None, ◌+ℤ◌, ◌-ℤ◌, ◌*ℤ◌, bit_and, bit_or, bit_xor}
+use Rattle.std.proofs.Common.{◌≡◌, ℕ, ◌-◌, ◌*◌, ◌%◌, ◌^◌, ◌<◌, ◌≤◌, Bool, true, false, min, refl, sym, ◌∙◌, ap, subst, arith, inl, inr, neg_ℤ}
+use Rattle.std.specs.Prelude.{ℤ, pos, negsuc, FitsSigned, None, ◌-ℤ◌, ◌*ℤ◌, bit_and, bit_or, bit_xor}
 use Rattle.std.specs.Int.{w128}
 use Rattle.std.specs.Int.Signed.{shr_z, mag_shr}
 use mir.Val.{to_z, of_z}
@@ -8,11 +8,10 @@ use Rattle.std.proofs.Math.Nat.{pow-le-pow_right, mod-eq_of_lt, div-eq_of_lt}
 use Rattle.std.proofs.lemmas.Bool.{cases_lt}
 use Rattle.std.proofs.lemmas.Int.{ints, to_z-of_z, to_z_pos}
 use Rattle.std.proofs.lemmas.Nat.{pow_pos, one_shl}
-use borrow.Author.Differences.{up, down}
 use Rattle.lx_num.specs.declared.Shape.{Shape}
 use Rattle.lx_num.specs.Ints.{modulo, floor_div, FitsBits, Fits}
 use Rattle.lx_num.specs.Bits.{int_and, int_or, int_xor}
-use Rattle.lx_num.proofs.Ranges.{fits_unsigned, unsigned_fits, fits_signed, signed_fits}
+use Rattle.lx_num.proofs.Ranges.{unsigned_fits, signed_fits}
 use Rattle.lx_num.proofs.Bitwise.{modulo-int_and, modulo-int_or, modulo-int_xor}
 use Rattle.lx_tables.specs.declared.operators.Op.{Op}
 use Rattle.lx_tables.specs.declared.operators.Op.TheVariants.{Shl}

@@ -1,16 +1,16 @@
 -- Each operator's value fits the operator's shape, where it has no fault.
-use Rattle.std.proofs.Common.{◌≡◌, ℕ, ◌+◌, ◌-◌, ◌*◌, ◌^◌, ◌<◌, ◌≤◌, Bool, true, false, cond, max, not, ◌||◌, refl, sym, ◌∙◌, ap, subst, arith, ◌⊎◌, inl, inr, neg_ℤ}
-use Rattle.std.specs.Prelude.{ℤ, pos, negsuc, Option, Some, None, ◌+ℤ◌, ◌-ℤ◌, ◌*ℤ◌, int_lt, nat_le, min}
+use Rattle.std.proofs.Common.{◌≡◌, ℕ, ◌+◌, ◌-◌, ◌^◌, ◌≤◌, Bool, true, false, cond, not, ◌||◌, refl, ap, subst, arith}
+use Rattle.std.specs.Prelude.{ℤ, pos, Option, Some, None, ◌*ℤ◌, int_lt, nat_le, min}
 use Rattle.std.specs.Ordering.{int_eq}
-use Rattle.std.proofs.lemmas.Bool.{leb-true, cases_Bool}
+use Rattle.std.proofs.lemmas.Bool.{leb-true}
 use Rattle.std.proofs.lemmas.Nat.{pow_pos}
 use Rattle.lx_num.specs.declared.Shape.{Shape}
-use Rattle.lx_num.specs.Ints.{FitsBits, Fits, shape, unsigned}
+use Rattle.lx_num.specs.Ints.{FitsBits, Fits, shape}
 use Rattle.lx_tables.specs.declared.operators.Op.{Op}
 use Rattle.lx_tables.specs.declared.operators.Op.TheVariants.{Neg, Not, Add, Sub, Mul, Shl, Shr, And, Or, Xor, Eq, Ne, Lt, Le, Gt, Ge, Mux, Cat, Replicate}
 use Rattle.lx_circuit.specs.declared.WidthFault.{WidthFault}
-use Rattle.lx_circuit.specs.declared.WidthFault.TheVariants.{TooWide, SignedShift, BadSlice, BadWidth}
-use Rattle.lx_circuit.specs.Shapes.{joined, joined_bits, extra, unary_shape, binary_shape, too_wide, or_else, index_fault, binary_fault, joined_fault}
+use Rattle.lx_circuit.specs.declared.WidthFault.TheVariants.{TooWide, SignedShift}
+use Rattle.lx_circuit.specs.Shapes.{joined, joined_bits, unary_shape, binary_shape, too_wide, or_else, index_fault, binary_fault, joined_fault}
 use Rattle.lx_circuit.specs.Values.{unary_value, binary_value, count_of}
 use Rattle.lx_fhdl.specs.Nodes.{IsSmall}
 use Rattle.lx_fhdl.proofs.Fitting.{fits_left, fits_right, fits_joined, fits_sum, fits_difference, fits_negation, fits_product, fits_and, fits_or, fits_xor, fits_flag, fits_not_signed, fits_not_unsigned, fits_floor, fits_left_shift, fits_zero, count_below}

@@ -1,15 +1,15 @@
 -- Lists of children: one part after the other.
-use Rattle.std.proofs.Common.{◌≡◌, ℕ, ◌+◌, ◌-◌, ◌*◌, ◌%◌, ◌^◌, ◌<◌, ◌≤◌, List, [], ◌∷◌, length, drop, get_or, min, refl, sym, ◌∙◌, ap, subst, arith, suc, zero, add-one, drop-cons}
+use Rattle.std.proofs.Common.{◌≡◌, ℕ, ◌+◌, ◌-◌, ◌*◌, ◌%◌, ◌^◌, ◌<◌, ◌≤◌, List, [], ◌∷◌, length, drop, get_or, min, sym, ◌∙◌, ap, arith, suc, zero, add-one, drop-cons}
 use Rattle.std.specs.Prelude.{ℤ, pos, FitsSigned}
 use Rattle.std.specs.Int.{w128}
 use mir.Val.{to_z, of_z}
 use Rattle.std.proofs.lemmas.Int.{to_z-of_z}
 use Rattle.std.proofs.Math.Nat.{pow-le-pow_right}
-use Rattle.std.proofs.lemmas.Nat.{pow_pos, pow-add, mul-add-lt, one_shl}
+use Rattle.std.proofs.lemmas.Nat.{pow-add, mul-add-lt, one_shl}
 use Rattle.lx_num.specs.declared.Shape.{Shape}
 use Rattle.lx_num.specs.Ints.{modulo}
 use Rattle.lx_circuit.specs.Shapes.{bits_sum}
-use Rattle.lx_circuit.specs.Values.{cat_pattern, copies, nth_or_last, count_of, pick_value}
+use Rattle.lx_circuit.specs.Values.{cat_pattern, nth_or_last, count_of, pick_value}
 use Rattle.lx_fhdl.specs.Below.{ExprId}
 use Rattle.lx_fhdl.specs.Nodes.{EachPlace, shape_at, shapes_at, value_at, values_at}
 

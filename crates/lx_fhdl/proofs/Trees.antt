@@ -1,12 +1,12 @@
 -- The tree at a place is made of the trees at the places of its children.
-use Rattle.std.proofs.Common.{◌≡◌, ℕ, ◌+◌, ◌<◌, ◌≤◌, Bool, true, List, [], ◌∷◌, Option, Some, None, refl, sym, ◌∙◌, ap, arith, suc, zero, ◌&&◌, nat_lt}
+use Rattle.std.proofs.Common.{◌≡◌, ℕ, ◌<◌, true, List, [], ◌∷◌, Option, Some, None, refl, sym, ◌∙◌, ap, arith, suc, zero, ◌&&◌, nat_lt}
 use Rattle.std.specs.Prelude.{slice_get, IfSome, IsTrue}
 use Rattle.std.proofs.lemmas.Bool.{ltb-true, and_parts}
 use Rattle.lx_arena.specs.Lower.{EachLower}
 use Rattle.lx_circuit.specs.Terms as term
 use Rattle.lx_circuit.specs.Terms.{Term, Terms, NoTerm, MoreTerms}
 use Rattle.lx_fhdl.specs.Below.{ExprId, all_below, expr_below}
-use Rattle.lx_fhdl.specs.Trees.{terms_at, node_term, no_term, term_of, term_below, term_at}
+use Rattle.lx_fhdl.specs.Trees.{terms_at, node_term, term_of, term_below, term_at}
 use Rattle.lx_fhdl.specs.declared.exprs.Expr.{Expr}
 use Rattle.lx_fhdl.specs.declared.exprs.Expr.TheVariants.{Const, Sig, Unary, Binary, Mux, Cat, Pick, Replicate, Slice}
 

@@ -1,5 +1,5 @@
 -- Nodes whose children are lower than a place.
-use Rattle.std.specs.Prelude.{ℕ, Bool, true, false, List, [], ◌∷◌, ◌&&◌, nat_lt}
+use Rattle.std.specs.Prelude.{ℕ, Bool, true, List, [], ◌∷◌, ◌&&◌, nat_lt}
 use Rattle.lx_arena.specs.declared.Id.{Id}
 use Rattle.lx_fhdl.specs.declared.exprs.InExprs.{InExprs}
 use Rattle.lx_fhdl.specs.declared.exprs.Expr.{Expr}

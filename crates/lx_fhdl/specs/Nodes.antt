@@ -1,10 +1,8 @@
 -- What one node of an arena gives from what its children give: its shape, its fault, its value, and its tree.
-use Rattle.std.specs.Prelude.{◌≡◌, ℕ, ℤ, pos, Bool, false, List, [], ◌∷◌, Option, Some, None, ◌-◌, ◌*◌, ◌≤◌, ◌<◌, length, slice_get, slice_index_or}
+use Rattle.std.specs.Prelude.{◌≡◌, ℕ, ℤ, pos, false, List, [], ◌∷◌, Option, Some, None, ◌-◌, ◌*◌, ◌≤◌, ◌<◌, length, slice_get, slice_index_or}
 use Rattle.lx_num.specs.declared.Shape.{Shape}
 use Rattle.lx_num.specs.Ints.{shape, unsigned, Fits, wrapped, field_of}
 use Rattle.lx_circuit.specs.declared.WidthFault.{WidthFault}
-use Rattle.lx_circuit.specs.Terms as term
-use Rattle.lx_circuit.specs.Terms.{Term, Terms, NoTerm, MoreTerms}
 use Rattle.lx_circuit.specs.Shapes.{Shapes, joined, pick_shape, bits_sum, unary_shape, binary_shape, too_wide, binary_fault, replicate_fault, slice_fault, pick_fault, constant_fault}
 use Rattle.lx_circuit.specs.Values.{Values, unary_value, binary_value, mux_value, cat_pattern, replicate_value, pick_value}
 use Rattle.lx_fhdl.specs.Below.{ExprId}

@@ -1,15 +1,10 @@
 -- The tree that hangs at a place of an arena.
-use Rattle.std.specs.Prelude.{◌≡◌, ℕ, ℤ, pos, List, [], ◌∷◌, Option, Some, None, ◌≤◌, ◌<◌, length, slice_get, slice_index_or}
+use Rattle.std.specs.Prelude.{◌≡◌, ℕ, pos, List, [], ◌∷◌, Option, Some, None, slice_get}
 use Rattle.std.proofs.Common.{zero, suc}
-use Rattle.lx_num.specs.declared.Shape.{Shape}
-use Rattle.lx_num.specs.Ints.{shape, unsigned, Fits}
+use Rattle.lx_num.specs.Ints.{shape, unsigned}
 use Rattle.lx_circuit.specs.Terms as term
 use Rattle.lx_circuit.specs.Terms.{Term, Terms, NoTerm, MoreTerms}
-use Rattle.lx_circuit.specs.Shapes.{Shapes, shape_of, fault_of}
-use Rattle.lx_circuit.specs.Values.{Values, value_of}
-use Rattle.lx_fhdl.specs.Below.{ExprId, expr_below}
-use Rattle.lx_arena.specs.Lower.{EachLower}
-use Rattle.lx_fhdl.specs.Nodes.{shape_at, value_at, IsShaped, IsValued}
+use Rattle.lx_fhdl.specs.Below.{ExprId}
 use Rattle.lx_fhdl.specs.declared.exprs.Expr.{Expr}
 use Rattle.lx_fhdl.specs.declared.exprs.Expr.TheVariants.{Const, Sig, Unary, Binary, Mux, Cat, Pick, Replicate, Slice}
 

@@ -306,3 +306,75 @@ pub fn eval_into<L: Ledger>(
         into[place] = eval_node(exprs, shapes, id, vals, into, steps);
     }
 }
+
+#[cfg(test)]
+mod tests {
+    use super::*;
+
+    const fn shape(bits: u8, signed: bool) -> Shape {
+        Shape { bits, signed }
+    }
+
+    macro_rules! value {
+        ($op:ident, $n:literal $s:literal $x:literal, $m:literal $t:literal $y:literal) => {
+            binary(
+                Op::$op,
+                Shape {
+                    bits: $n,
+                    signed: $s,
+                },
+                Shape {
+                    bits: $m,
+                    signed: $t,
+                },
+                $x,
+                $y,
+            )
+        };
+    }
+
+    #[test]
+    fn sums_and_products(rt: HostRuntime) {
+        assert_eq!(rt; value!(Add, 4 false 15, 4 false 15), 30);
+        assert_eq!(rt; value!(Add, 4 true -8, 4 false 3), -5);
+        assert_eq!(rt; value!(Add, 4 true -8, 4 false 15), 7);
+        assert_eq!(rt; value!(Sub, 4 false 0, 4 false 15), -15);
+        assert_eq!(rt; value!(Mul, 4 true -8, 4 true -8), 64);
+        assert_eq!(rt; value!(Mul, 4 true -8, 4 false 15), -120);
+    }
+
+    #[test]
+    fn shifts(rt: HostRuntime) {
+        assert_eq!(rt; value!(Shl, 4 true -8, 2 false 3), -64);
+        assert_eq!(rt; value!(Shr, 5 false 30, 1 false 1), 15);
+        assert_eq!(rt; value!(Shr, 4 true -7, 1 false 1), -4);
+        assert_eq!(rt;
+            value!(Shr, 4 true -7, 127 false 170141183460469231731687303715884105727),
+            -1
+        );
+        assert_eq!(rt; value!(Shr, 4 false 15, 64 false 18446744073709551615), 0);
+    }
+
+    #[test]
+    fn bits_and_comparisons(rt: HostRuntime) {
+        assert_eq!(rt; value!(And, 4 true -8, 4 false 15), 8);
+        assert_eq!(rt; value!(Or, 4 true -8, 4 false 3), -5);
+        assert_eq!(rt; value!(Xor, 4 true -1, 4 false 5), -6);
+        assert_eq!(rt; value!(Lt, 4 true -8, 4 false 3), 1);
+        assert_eq!(rt; value!(Eq, 4 true -1, 4 false 15), 0);
+        assert_eq!(rt; value!(Ge, 4 true -1, 4 false 15), 0);
+    }
+
+    #[test]
+    fn other_operators(rt: HostRuntime) {
+        assert_eq!(rt; unary(Op::Not, shape(1, false), 1), 0);
+        assert_eq!(rt; unary(Op::Not, shape(4, false), 5), 10);
+        assert_eq!(rt; unary(Op::Not, shape(4, true), 5), -6);
+        assert_eq!(rt; unary(Op::Neg, shape(4, true), -8), 8);
+        assert_eq!(rt; choose(0, 5, 7), 7);
+        assert_eq!(rt; choose(-1, 5, 7), 5);
+        assert_eq!(rt; replicate(shape(2, false), 3, 2), 42);
+        assert_eq!(rt; slice(shape(8, false), 4, 8, 0xc5), 12);
+        assert_eq!(rt; place_of(3, 2), 2);
+    }
+}

@@ -6,6 +6,7 @@ pub mod design;
 pub mod eval;
 pub mod exprs;
 pub mod places;
+pub mod laws;
 pub mod steps;
 
 pub use design::{Arm, Branch, Design, Domain, Signal, Stmt, SyncPart, Target};

@@ -1,18 +1,18 @@
 -- Widths as far as they are shown, and children that are there.
-use Rattle.std.proofs.Common.{◌≡◌, ℕ, ◌+◌, ◌-◌, ◌*◌, ◌^◌, ◌<◌, ◌≤◌, Bool, true, false, cond, min, max, ◌&&◌, ◌||◌, List, [], ◌∷◌, length, drop, get_or, refl, sym, ◌∙◌, ap, subst, arith, ◌⊎◌, inl, inr, nat_lt}
-use Rattle.std.specs.Prelude.{Option, Some, None, Result, Ok, Err, IsTrue, nat_le}
+use Rattle.std.proofs.Common.{◌≡◌, ℕ, ◌+◌, ◌-◌, ◌^◌, ◌<◌, ◌≤◌, Bool, false, cond, min, List, length, get_or, sym, ◌∙◌, ap, arith, inl, inr}
+use Rattle.std.specs.Prelude.{Option, Some, None, IsTrue}
 use Rattle.std.proofs.Math.Nat.{pow-le-pow_right}
-use Rattle.std.proofs.lemmas.Bool.{cases_lt, ltb-true, and_parts, lt-leb, le-leb}
+use Rattle.std.proofs.lemmas.Bool.{cases_lt, lt-leb}
 use Rattle.lx_num.specs.declared.Shape.{Shape}
 use Rattle.lx_num.specs.Ints.{shape}
 use Rattle.lx_circuit.specs.declared.WidthFault.{WidthFault}
 use Rattle.lx_circuit.specs.declared.WidthFault.TheVariants.{TooWide, SignedShift}
-use Rattle.lx_circuit.specs.Shapes.{too_wide, index_fault, or_else, bits_sum, some_signed, widest, joined_bits}
+use Rattle.lx_circuit.specs.Shapes.{too_wide, index_fault, or_else}
 use Rattle.lx_fhdl.specs.Below.{ExprId, all_below, expr_below}
-use Rattle.lx_fhdl.specs.Nodes.{EachChild, EachPlace, shape_at, shapes_at}
+use Rattle.lx_fhdl.specs.Nodes.{EachChild}
 use Rattle.lx_fhdl.specs.declared.exprs.Expr.{Expr}
 use Rattle.lx_fhdl.proofs.Arena.{each_child, each_place}
-use Rattle.lx_fhdl.proofs.Parts.{each_at, next_part}
+use Rattle.lx_fhdl.proofs.Parts.{each_at}
 use Rattle.lx_width.specs.Width.{shaped}
 
 -- a width that is cut off where it is shown gives the same answer

@@ -262,3 +262,132 @@ pub fn node_shape(node: &Expr, shapes: &[Shape], signals: &[Signal]) -> Result<S
         Expr::Slice { of, low, high } => slice(shape_of(shapes, *of), *low, *high),
     }
 }
+
+#[cfg(test)]
+mod tests {
+    use super::*;
+    use lx_arena::Id;
+    use std::marker::PhantomData;
+
+    const fn unsigned(bits: u8) -> Shape {
+        Shape {
+            bits,
+            signed: false,
+        }
+    }
+
+    const fn signed(bits: u8) -> Shape {
+        Shape { bits, signed: true }
+    }
+
+    fn id(place: usize) -> ExprId
+        ensures { result.place ≡ place }
+    {
+        Id {
+            place,
+            of: PhantomData,
+        }
+    }
+
+    #[test]
+    fn operators_of_two_operands(rt: HostRuntime) {
+        let rows = [
+            (Op::Add, unsigned(4), unsigned(4), Ok(unsigned(5))),
+            (Op::Add, signed(4), unsigned(4), Ok(signed(6))),
+            (Op::Sub, unsigned(4), unsigned(4), Ok(signed(5))),
+            (Op::Sub, unsigned(8), signed(4), Ok(signed(10))),
+            (Op::Mul, signed(4), signed(4), Ok(signed(8))),
+            (Op::Mul, unsigned(4), signed(4), Ok(signed(9))),
+            (
+                Op::Mul,
+                unsigned(64),
+                unsigned(64),
+                Err(WidthFault::TooWide(128)),
+            ),
+            (Op::Shl, unsigned(64), unsigned(6), Ok(unsigned(127))),
+            (
+                Op::Shl,
+                unsigned(64),
+                unsigned(7),
+                Err(WidthFault::TooWide(191)),
+            ),
+            (
+                Op::Shl,
+                unsigned(64),
+                unsigned(64),
+                Err(WidthFault::TooWide(4294967295)),
+            ),
+            (
+                Op::Shl,
+                unsigned(1),
+                signed(1),
+                Err(WidthFault::SignedShift),
+            ),
+            (Op::Shr, signed(4), unsigned(127), Ok(signed(4))),
+            (Op::Shr, signed(4), signed(2), Err(WidthFault::SignedShift)),
+            (Op::And, unsigned(4), signed(4), Ok(signed(5))),
+            (Op::Xor, unsigned(3), unsigned(4), Ok(unsigned(4))),
+            (Op::Lt, signed(4), unsigned(4), Ok(unsigned(1))),
+            (
+                Op::Eq,
+                unsigned(127),
+                signed(1),
+                Err(WidthFault::TooWide(128)),
+            ),
+            (
+                Op::Add,
+                unsigned(127),
+                signed(4),
+                Err(WidthFault::TooWide(128)),
+            ),
+            (
+                Op::Add,
+                unsigned(127),
+                unsigned(4),
+                Err(WidthFault::TooWide(128)),
+            ),
+        ];
+        for (op, a, b, expected) in rows {
+            assert_eq!(rt; binary(op, a, b), expected);
+        }
+    }
+
+    #[test]
+    fn other_forms(rt: HostRuntime) {
+        assert_eq!(rt; unary(Op::Neg, unsigned(4)), Ok(signed(5)));
+        assert_eq!(rt; unary(Op::Neg, signed(127)), Err(WidthFault::TooWide(128)));
+        assert_eq!(rt; unary(Op::Not, signed(4)), Ok(signed(4)));
+        assert_eq!(rt; constant(0, false), Err(WidthFault::BadWidth));
+        assert_eq!(rt; constant(128, true), Err(WidthFault::TooWide(128)));
+        assert_eq!(rt;
+            constant(4294967295, true),
+            Err(WidthFault::TooWide(4294967295))
+        );
+        assert_eq!(rt; replicate(unsigned(4), 0), Err(WidthFault::BadWidth));
+        assert_eq!(rt; replicate(signed(4), 3), Ok(unsigned(12)));
+        assert_eq!(rt;
+            replicate(unsigned(64), 4294967295),
+            Err(WidthFault::TooWide(4294967295))
+        );
+        assert_eq!(rt; slice(signed(8), 4, 8), Ok(unsigned(4)));
+        assert_eq!(rt; slice(unsigned(8), 4, 4), Err(WidthFault::BadSlice));
+        assert_eq!(rt; slice(unsigned(8), 4, 9), Err(WidthFault::BadSlice));
+    }
+
+    #[test]
+    fn nodes(rt: HostRuntime) {
+        let shapes = [signed(4), unsigned(4)];
+        let mux = Expr::Mux {
+            cond: id(0),
+            yes: id(0),
+            no: id(1),
+        };
+        assert_eq!(rt; node_shape(&mux, &shapes, &[]), Ok(signed(5)));
+        let sum = Expr::Binary {
+            op: Op::Add,
+            left: id(0),
+            right: id(1),
+        };
+        assert_eq!(rt; node_shape(&sum, &shapes, &[]), Ok(signed(6)));
+    }
+}

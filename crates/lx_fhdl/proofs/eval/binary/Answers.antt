@@ -3,9 +3,7 @@ use Rattle.std.proofs.lemmas.Int.{to_z-of_z}
 use Rattle.std.specs.Prelude.{ℤ, pos, ◌+ℤ◌, ◌-ℤ◌, ◌*ℤ◌, ◌^◌, FitsSigned, None, ◌≤◌}
 use Rattle.std.specs.Int.{w128}
 use mir.Val.{to_z, of_z}
-use Rattle.lx_num.specs.Bits.{int_and, int_or, int_xor}
 use Rattle.lx_tables.specs.declared.operators.Op.{Op}
-use Rattle.lx_tables.specs.declared.operators.Op.TheVariants.{Shl}
 use Rattle.lx_circuit.specs.Shapes.{binary_fault}
 use Rattle.lx_circuit.specs.Values.{binary_value, count_of}
 use Rattle.lx_fhdl.proofs.Machine.{amount_small, binary_machine, bits_and, bits_or, bits_xor, passed_is, passed_fits, shifted_left, shifted_right}

@@ -1,7 +1,6 @@
-use Rattle.std.proofs.Common.{◌≡◌, ◌∙◌, ◌+◌, ◌*◌, ◌^◌, ◌<◌, ◌≤◌, ℕ, ap, arith, length, get_or}
+use Rattle.std.proofs.Common.{◌<◌, ◌≤◌, arith}
 use Rattle.std.proofs.Math.Nat.{pow-le-pow_right}
-use Rattle.lx_num.specs.declared.Shape.{Shape}
-use Rattle.lx_fhdl.specs.Nodes.{EachPlace, IsKnown}
+use Rattle.lx_fhdl.specs.Nodes.{IsKnown}
 use Rattle.lx_fhdl.proofs.Parts.{each_at, part_step}
 use Rattle.lx_fhdl.proofs.eval.cat.Goals as goal
 

@@ -1,7 +1,7 @@
-use Rattle.std.proofs.Common.{◌≡◌, ◌+◌, ◌*◌, ◌^◌, ◌<◌, ◌≤◌, drop}
+use Rattle.std.proofs.Common.{◌≡◌, ◌+◌, ◌*◌, ◌^◌, ◌<◌, drop}
 use Rattle.lx_circuit.specs.Shapes.{bits_sum}
 use Rattle.lx_circuit.specs.Values.{cat_pattern}
-use Rattle.lx_fhdl.specs.Nodes.{EachPlace, IsKnown, shapes_at, values_at}
+use Rattle.lx_fhdl.specs.Nodes.{shapes_at, values_at}
 use Rattle.lx_fhdl.proofs.eval.cat.Given as goal
 
 abbrev pub invariant-loop-part : goal.invariant-loop-part

@@ -1,4 +1,4 @@
-use Rattle.std.proofs.Common.{◌≡◌, ℕ, ◌+◌, ◌<◌, length}
+use Rattle.std.proofs.Common.{◌≡◌, ℕ, ◌+◌, ◌<◌}
 use Rattle.lx_fhdl.specs.Nodes.{IsFit, IsValued}
 use Rattle.lx_fhdl.proofs.eval.eval_into.Given as goal
 

@@ -1,7 +1,6 @@
-use Rattle.std.proofs.Common.{◌≡◌, ◌∙◌, sym, ap, subst}
+use Rattle.std.proofs.Common.{◌∙◌, sym, ap, subst}
 use Rattle.std.specs.Prelude.{ℤ, pos, ◌-ℤ◌, FitsSigned}
 use Rattle.std.specs.Int.{w128}
-use mir.Val.{to_z, of_z}
 use Rattle.lx_tables.specs.declared.operators.Op.{Op}
 use Rattle.lx_circuit.specs.Values.{unary_value}
 use Rattle.lx_fhdl.proofs.Machine.{unary_machine, negated, passed_is, passed_fits}

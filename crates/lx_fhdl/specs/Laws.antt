@@ -1,0 +1,37 @@
+-- The nodes of an arena mean what their trees mean.
+use Rattle.std.specs.Prelude.{◌≡◌, ℕ, ℤ, List, Option, Some, None, ◌<◌, length, slice_get}
+use Rattle.lx_num.specs.declared.Shape.{Shape}
+use Rattle.lx_arena.specs.Lower.{EachLower}
+use Rattle.lx_circuit.specs.declared.WidthFault.{WidthFault}
+use Rattle.lx_circuit.specs.Shapes.{Shapes, shape_of, fault_of}
+use Rattle.lx_circuit.specs.Values.{value_of}
+use Rattle.lx_fhdl.specs.Below.{expr_below}
+use Rattle.lx_fhdl.specs.Nodes.{IsShaped, IsValued, shape_at, value_at}
+use Rattle.lx_fhdl.specs.Trees.{node_term, term_at}
+use Rattle.lx_fhdl.specs.declared.exprs.Expr.{Expr}
+use Rattle.lx_fhdl.specs.declared.exprs.Expr.TheVariants.{Sig}
+
+-- the tree at a place is made of the trees of its node's children
+abbrev pub TreesStand : Type 0
+TreesStand = (xs : List Expr) → EachLower expr_below xs → (k : ℕ) (x : Expr) → slice_get xs k ≡ Some x → term_at xs k ≡ node_term (term_at xs) x
+
+abbrev pub OfSignal : Shapes → Shape → Expr → Type 0
+OfSignal s a (Sig y) = a ≡ s y.0
+OfSignal s a _ = Unit {0}
+
+-- nodes that name a signal have the signal's shape
+abbrev pub GivesShapes : Shapes → List Expr → List Shape → Type 0
+GivesShapes s xs hs = (k : ℕ) (x : Expr) → slice_get xs k ≡ Some x → OfSignal s (shape_at hs k) x
+
+-- what stands for a node is the shape and the value of its tree, which has no fault
+pub record MeansTree (s : Shapes) (xs : List Expr) (hs : List Shape) (vals known : List ℤ) (k : ℕ) : Type 0 where
+  pub shape : shape_of s (term_at xs k) ≡ shape_at hs k
+  pub fault : fault_of s (term_at xs k) ≡ None
+  pub value : value_of s (value_at vals) (term_at xs k) ≡ value_at known k
+
+abbrev pub ValuesStand : Type 0
+ValuesStand =
+    (s : Shapes) (xs : List Expr) (hs : List Shape) (vals known : List ℤ)
+    → EachLower expr_below xs → IsShaped xs hs vals → GivesShapes s xs hs
+    → ((k : ℕ) → k < length xs → IsValued xs hs vals known k)
+    → (k : ℕ) → k < length xs → MeansTree s xs hs vals known k
