@@ -4,3 +4,4 @@ pub mod Legal
 pub mod Lowest
 pub mod Stand
 pub mod Tells
+pub mod Names

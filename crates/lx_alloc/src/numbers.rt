@@ -1,10 +1,10 @@
 //! Numbers of banks and interrupts: the faults of stated numbers, and the least numbers.
 
-ghost use Rattle.std.specs.Prelude.{◌≡◌, [], flat_map, map, slice_get};
+ghost use Rattle.std.specs.Prelude.{◌≡◌, [], flat_map, map, slice_get, IsTrue, ◌↔◌};
 ghost use Rattle.std.specs.List.{list_any};
 ghost use Rattle.std.specs.Str.{bytes_eq};
 ghost use Rattle.lx_alloc.specs.Judged.{Judged, each_pair};
-ghost use Rattle.lx_alloc.specs.Numbers.{range_kind, taken_kind, exhausted_kind, range_faults, taken_faults, surplus_faults, event_faults, bank_faults, full_faults, irq_faults, all_bank_faults};
+ghost use Rattle.lx_alloc.specs.Numbers.{range_kind, taken_kind, exhausted_kind, range_faults, taken_faults, surplus_faults, event_faults, bank_faults, full_faults, irq_faults, all_bank_faults, AreDistinct};
 
 use crate::origins::refusal;
 use lx_fhdl::{BankWish, Fix};
@@ -253,4 +253,16 @@ pub fn check_all_banks(alloc: Global, fixes: &[Fix], banks: &[BankWish]) -> Resu
     check_fulls(alloc, banks)?;
     check_count(Counted::Banks, banks.len(), surplus_bank(banks))?;
     Ok(())
+}
+
+/// Whether no two banks have one name.
+pub fn are_distinct(banks: &[BankWish]) -> bool
+    ensures { IsTrue result ↔ AreDistinct banks.now }
+{
+    for (i, bank) in banks.iter().enumerate() {
+        if is_bank(&banks[..i], &bank.name) {
+            return false;
+        }
+    }
+    true
 }

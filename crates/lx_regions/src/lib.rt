@@ -5,4 +5,4 @@ pub mod filling;
 pub mod spots;
 
 pub use filling::{exhaustion_law, fill, free_law};
-pub use spots::{Place, Spot, is_apart, is_inside, rounded_size, wanted};
+pub use spots::{Place, Spot, is_inside, rounded_size, wanted};

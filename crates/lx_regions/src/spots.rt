@@ -1,9 +1,9 @@
 //! Regions with their places, and the two windows of the address space.
 
-ghost use Rattle.std.specs.Prelude.{◌≡◌, ◌+◌, ◌^◌, ◌<◌, ◌≤◌};
+ghost use Rattle.std.specs.Prelude.{◌≡◌, ◌+◌, ◌≤◌};
 ghost use Rattle.lx_regions.specs.Rounded.{rounded};
 ghost use Rattle.lx_regions.specs.Free.{wanted};
-ghost use Rattle.lx_regions.specs.Space.{window_start, is_inside, is_apart};
+ghost use Rattle.lx_regions.specs.Space.{window_start, is_inside};
 
 /// Where a region is.
 #[derive(Clone, Copy)]
@@ -52,16 +52,6 @@ pub fn is_inside(cached: bool, origin: u64, size: u64) -> bool
     start <= origin && origin + size <= start + WINDOW
 }
 
-/// Whether two parts of the address space share no byte.
-#[tactic(auto, unfolding(crate::specs::Space::is_apart))]
-pub fn is_apart(left: u64, left_size: u64, right: u64, right_size: u64) -> bool
-    requires left_fits { left + left_size < 2 ^ 64 }
-    requires right_fits { right + right_size < 2 ^ 64 }
-    ensures { result ≡ is_apart left left_size right right_size }
-{
-    left + left_size <= right || right + right_size <= left
-}
-
 /// How many regions of this window and size wish for a place.
 pub fn wanted(spots: &[Spot], cached: bool, size: u64) -> usize
     ensures { result ≡ wanted cached size spots.now }
@@ -73,7 +63,7 @@ pub fn wanted(spots: &[Spot], cached: bool, size: u64) -> usize
 }
 
 impl Spot {
-    ghost use Rattle.std.specs.Prelude.{◌↔◌, IsTrue};
+    ghost use Rattle.std.specs.Prelude.{◌<◌, ◌↔◌, IsTrue};
     ghost use Rattle.lx_regions.specs.Space.{is_open, origin_of};
     ghost use Rattle.lx_regions.specs.Free.{is_wanted};
     ghost use Rattle.lx_regions.specs.Least.{rank};
