@@ -1,11 +1,11 @@
 -- One pass over the pieces gives the tokens of the lines.
-use Rattle.std.proofs.Common.{◌≡◌, ℕ, Bool, true, false, List, [], ◌∷◌, ◌++◌, ◌+◌, Option, Some, None, Result, Ok, Err, refl, sym, ap, ◌∙◌, append_assoc, ◌≤◌, length, nat_lt, arith}
+use Rattle.std.proofs.Common.{◌≡◌, ℕ, Bool, true, false, List, [], ◌∷◌, ◌++◌, ◌+◌, Option, None, Result, Ok, Err, refl, sym, ap, ◌∙◌, append_assoc, ◌≤◌, length, nat_lt, arith}
 use Rattle.std.proofs.lemmas.Bool.Decides.{nat_tests}
 use Rattle.lx_text.specs.declared.faults.Fault.{Fault}
 use Rattle.lx_text.specs.declared.faults.Refusal.{Refusal}
 use Rattle.lx_text.specs.declared.faults.Refusal.TheVariants as refusal
 use Rattle.lx_token.specs.Pieces.{pieces_of}
-use Rattle.lx_token.specs.Lines.{lines_of, with_piece, before_lines, logical, first_tab, Logical}
+use Rattle.lx_token.specs.Lines.{lines_of, before_lines, logical, first_tab}
 use Rattle.lx_token.specs.Tokens.{Nested, Cut, Line, indented, go_on, with_token, with_tokens, line_tokens, line_of, nested_line, ending_tokens, all_lines, last_newline, most_bytes, tokens_of, Tokenized}
 use Rattle.lx_token.specs.Machine.{Gives, blank, tab_in, line_end, put_token, begin_line, take_piece, take_all, last_line, finished}
 use Rattle.lx_token.specs.declared.tokens.Token.{Token}
@@ -72,7 +72,7 @@ go_on-go_on : (last : Token) (n : Nested) (lines : List (List Piece)) (r : Resul
 go_on-go_on last n lines (Err f) = refl
 go_on-go_on last n lines (Ok c) = refl
 
-abbrev machine : List Token → List ℕ → ℕ → Option ℕ → Bool → ℕ → Lines
+abbrev pub machine : List Token → List ℕ → ℕ → Option ℕ → Bool → ℕ → Lines
 machine ts ls w t b n = record { tokens = ts; levels = ls; width = w; tab = t; begun = b; newline = n }
 
 -- one pass from anywhere gives what is left of the line, and then the other lines

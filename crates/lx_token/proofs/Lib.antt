@@ -3,3 +3,4 @@ pub mod Values
 pub mod ByLines
 pub mod Cuts
 pub mod Within
+pub mod Rising

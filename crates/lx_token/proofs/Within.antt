@@ -1,5 +1,5 @@
 -- A lexeme lies within the bytes at whose front it stands, and isn't empty.
-use Rattle.std.proofs.Common.{◌≡◌, ℕ, zero, suc, ◌+◌, ◌-◌, ◌<◌, ◌≤◌, ◌==◌, Bool, true, false, not, cond, List, [], ◌∷◌, Option, Some, None, length, take, drop, nat_lt, nat_eq, ◌&&◌, ◌||◌, subst, refl, sym, ap, ◌∙◌, arith, rules, length-drop}
+use Rattle.std.proofs.Common.{◌≡◌, ℕ, suc, ◌+◌, ◌<◌, ◌≤◌, ◌==◌, Bool, true, false, not, cond, List, [], ◌∷◌, Option, Some, None, length, drop, nat_lt, nat_eq, ◌&&◌, ◌||◌, subst, refl, sym, arith}
 use Rattle.std.specs.List.{prefix_len, starts_with}
 use Rattle.std.proofs.lemmas.List.Sums.{prefix_len-le-length}
 use Rattle.std.proofs.lemmas.Bool.Decides.{nat_tests}
@@ -10,9 +10,8 @@ use Rattle.lx_token.specs.Bytes.{is_digit, is_letter, is_name_byte, is_digit_in,
 use Rattle.lx_token.specs.Numbers.{more_digits, digits_behind, digits_len, zeros, zero_number, number, named_base, number_len, number_value, greatest_number}
 use Rattle.lx_token.specs.Quotes.{quoted, escaped, closing, earlier, behind, is_escape, bad_escape}
 use Rattle.lx_token.specs.Turns.{IsAtMost}
-use Rattle.lx_token.specs.Lexemes.{lexeme_of, lexeme_len, IsWithin, word_kind, word_lexeme, number_lexeme, text_or_bad, text_lexeme, quoted_lexeme, operator_lexeme, joint_lexeme, return_lexeme, comment_len}
+use Rattle.lx_token.specs.Lexemes.{lexeme_of, IsWithin, word_lexeme, number_lexeme, text_or_bad, text_lexeme, quoted_lexeme, operator_lexeme, joint_lexeme, return_lexeme, comment_len}
 use Rattle.lx_token.specs.declared.quotes.Ending.{Ending}
-use Rattle.lx_token.specs.declared.numbers.Number.{Number}
 use Rattle.lx_token.specs.declared.tokens.TokenKind.TheVariants as kind
 use Rattle.lx_token.specs.declared.lexemes.Form.TheVariants as form
 use Rattle.lx_token.specs.declared.lexemes.Lexeme.{Lexeme}

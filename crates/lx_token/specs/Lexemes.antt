@@ -1,5 +1,5 @@
 -- What stands at the front of a text: the longest piece that the rules of tokens give.
-use Rattle.std.specs.Prelude.{ℕ, Bool, true, false, List, [], ◌∷◌, ◌&&◌, ◌||◌, ◌==◌, ◌+◌, length, not, nat_lt, nat_eq, ◌<◌, ◌≤◌, take, drop, Option, Some, None, if◌then◌else◌}
+use Rattle.std.specs.Prelude.{ℕ, true, false, List, [], ◌∷◌, ◌||◌, ◌==◌, ◌+◌, not, nat_lt, nat_eq, ◌<◌, ◌≤◌, take, drop, Option, Some, None, if◌then◌else◌}
 use Rattle.std.specs.List.{prefix_len, starts_with}
 use Rattle.std.specs.Option.{option_map}
 use Rattle.lx_tables.specs.PythonWords.{is_python_word}
@@ -9,7 +9,6 @@ use Rattle.lx_token.specs.Quotes.{quoted}
 use Rattle.lx_token.specs.declared.quotes.Ending.{Ending}
 use Rattle.lx_token.specs.declared.tokens.TokenKind.{TokenKind}
 use Rattle.lx_token.specs.declared.tokens.TokenKind.TheVariants as kind
-use Rattle.lx_token.specs.declared.lexemes.Form.{Form}
 use Rattle.lx_token.specs.declared.lexemes.Form.TheVariants as form
 use Rattle.lx_token.specs.declared.lexemes.Lexeme.{Lexeme}
 use Rattle.lx_token.specs.declared.lexemes.Lexeme.TheVariants as lexeme

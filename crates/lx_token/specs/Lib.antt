@@ -7,3 +7,4 @@ pub mod Pieces
 pub mod Lines
 pub mod Tokens
 pub mod Machine
+pub mod Order

@@ -1,6 +1,5 @@
 -- Logical lines with their indentation.
 use Rattle.std.specs.Prelude.{ℕ, List, [], ◌∷◌, ◌+◌, Option, Some, None}
-use Rattle.lx_token.specs.declared.tokens.Token.{Token}
 use Rattle.lx_token.specs.declared.pieces.Piece.{Piece}
 use Rattle.lx_token.specs.declared.pieces.Piece.TheVariants as piece
 

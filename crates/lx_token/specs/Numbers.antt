@@ -1,5 +1,5 @@
 -- Numbers as they are written: digits of a base, with single `_` between them.
-use Rattle.std.specs.Prelude.{ℕ, Bool, List, [], ◌∷◌, ◌==◌, ◌+◌, ◌*◌, ◌-◌, ◌^◌, nat_lt, nat_le, take, drop, fold, Option, Some, None, if◌then◌else◌}
+use Rattle.std.specs.Prelude.{ℕ, List, [], ◌∷◌, ◌==◌, ◌+◌, ◌*◌, ◌-◌, ◌^◌, nat_lt, take, drop, fold, Option, Some, None, if◌then◌else◌}
 use Rattle.lx_token.specs.Bytes.{is_digit_in, digit_value}
 use Rattle.lx_token.specs.declared.numbers.Number.{Number}
 

@@ -1,5 +1,5 @@
 -- Texts between quotes.
-use Rattle.std.specs.Prelude.{ℕ, Bool, true, false, List, [], ◌∷◌, ◌&&◌, ◌||◌, ◌==◌, ◌+◌, length, not, Option, Some, None, codes, nat_eq, if◌then◌else◌}
+use Rattle.std.specs.Prelude.{ℕ, Bool, true, false, List, [], ◌∷◌, ◌&&◌, ◌==◌, ◌+◌, length, not, Option, Some, None, codes, nat_eq, if◌then◌else◌}
 use Rattle.std.specs.List.{list_any, starts_with}
 use Rattle.lx_token.specs.Bytes.{begins, is_line_end}
 use Rattle.lx_token.specs.declared.quotes.Ending.{Ending}

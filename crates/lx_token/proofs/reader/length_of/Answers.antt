@@ -1,7 +1,5 @@
-use Rattle.std.proofs.Common.{length, subst, arith, refl, sym, ap, ◌∙◌}
-use Rattle.lx_token.specs.Lexemes.{IsWithin, lexeme_len}
-use Rattle.lx_token.specs.declared.lexemes.Lexeme.{Lexeme}
-use Rattle.lx_token.specs.declared.lexemes.Lexeme.TheVariants as lexeme
+use Rattle.std.proofs.Common.{length, subst}
+use Rattle.lx_token.specs.Lexemes.{IsWithin}
 use Rattle.lx_token.proofs.Within.{front_within}
 use Rattle.lx_token.proofs.reader.length_of.Goals as goal
 

@@ -1,12 +1,6 @@
-use Rattle.std.proofs.Common.{◌≡◌, ℕ, ◌+◌, ◌<◌, ◌≤◌, length, drop, take, refl, sym, ap, ◌∙◌, subst, Result, Ok, Err, arith}
-use Rattle.lx_text.specs.declared.faults.Refusal.{Refusal}
-use Rattle.lx_text.specs.declared.faults.Refusal.TheVariants as refusal
-use Rattle.lx_token.specs.Lexemes.{lexeme_of, lexeme_len}
-use Rattle.lx_token.specs.Pieces.{pieces_of, placed, open_behind, line_ends, most_open}
-use Rattle.lx_token.specs.Machine.{Gives, take_piece, take_all}
-use Rattle.lx_token.specs.declared.lines.Lines.{Lines}
+use Rattle.std.proofs.Common.{arith}
 use Rattle.std.proofs.lemmas.Bool.Decides.{nat_tests}
-use Rattle.lx_token.proofs.Cuts.{Reading, reading_start, reading_stop_at, reading_step_at, reading_end}
+use Rattle.lx_token.proofs.Cuts.{reading_start, reading_stop_at, reading_step_at, reading_end}
 use Rattle.lx_token.proofs.reader.read_pieces.Goals as goal
 
 pub pieces-init : goal.pieces-init

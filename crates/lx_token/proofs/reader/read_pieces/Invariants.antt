@@ -1,6 +1,4 @@
-use Rattle.std.proofs.Common.{◌≡◌, ◌+◌, ◌≤◌, length}
-use Rattle.lx_token.specs.Pieces.{cut, pieces_of, line_ends, most_open}
-use Rattle.lx_token.specs.Machine.{take_all}
+use Rattle.std.proofs.Common.{length}
 use Rattle.lx_token.proofs.Cuts.{Reading}
 use Rattle.lx_token.proofs.reader.read_pieces.Given as goal
 
