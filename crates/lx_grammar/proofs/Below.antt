@@ -1,5 +1,5 @@
 -- Each sign's number is below 61.
-use Rattle.std.proofs.Common.{ℕ, ◌<◌, lit<}
+use Rattle.std.proofs.Common.{◌<◌, lit<}
 use Rattle.lx_grammar.specs.declared.sign.Sign.{Sign}
 use Rattle.lx_grammar.specs.declared.sign.Sign.TheVariants as sign
 use Rattle.lx_grammar.specs.Numbers.{number}

@@ -1,7 +1,6 @@
 -- Tests of each number below a bound.
-use Rattle.std.proofs.Common.{ℕ, Bool, true, false, ◌≡◌, ◌≢◌, ◌<◌, ◌&&◌, ◌||◌, zero, suc, nat_eq, nat_lt, refl, sym, arith, subst, ap, ◌∙◌, inl, inr, List, [], ◌∷◌, Option, Some, None, slice_get}
-use Rattle.std.proofs.lemmas.Bool.{eqb-true, ltb-true, eq-eqb, lt-ltb}
-use Rattle.std.proofs.lemmas.Bool.Decides.{eqb_tells, nat_tests}
+use Rattle.std.proofs.Common.{ℕ, Bool, true, false, ◌≡◌, ◌≢◌, ◌<◌, ◌&&◌, ◌||◌, zero, suc, refl, sym, arith, subst, inl, inr, List, [], ◌∷◌, Some, slice_get}
+use Rattle.std.proofs.lemmas.Bool.Decides.{eqb_tells}
 
 -- one test in place of the other
 abbrev pub imp : Bool → Bool → Bool

@@ -1,6 +1,6 @@
 -- Every tree of the grammar is the one that is read where what stands ahead picks each row; so there is at most one.
-use Rattle.std.proofs.Common.{ℕ, Bool, true, false, ◌≡◌, ◌<◌, ◌≤◌, ◌&&◌, ◌||◌, ◌+◌, ◌-◌, nat_eq, nat_lt, refl, sym, ap, subst, arith, ◌∙◌, List, [], ◌∷◌, length, Option, Some, None, slice_get, zero-add, if◌then◌else◌}
-use Rattle.std.proofs.lemmas.Bool.{eqb-true, ltb-true, eq-eqb, lt-ltb}
+use Rattle.std.proofs.Common.{ℕ, Bool, true, false, ◌≡◌, ◌<◌, ◌≤◌, ◌&&◌, ◌||◌, ◌+◌, ◌-◌, nat_eq, nat_lt, refl, sym, ap, subst, arith, ◌∙◌, List, [], ◌∷◌, length, Option, Some, None, slice_get, if◌then◌else◌}
+use Rattle.std.proofs.lemmas.Bool.{eqb-true, ltb-true, eq-eqb}
 use Rattle.std.proofs.lemmas.Bool.Decides.{nat_tests}
 use Rattle.std.proofs.lemmas.Option.{slice_get_past}
 use Rattle.lx_grammar.specs.declared.sign.Item.{Item}
@@ -12,14 +12,14 @@ use Rattle.lx_grammar.specs.declared.sign.TheConstants.{OPENING, CLOSING, LOUD}
 use Rattle.lx_grammar.specs.Numbers.{number, accepts}
 use Rattle.lx_grammar.specs.Grammar.{rules}
 use Rattle.lx_grammar.specs.Pick.{pick, is_far}
-use Rattle.lx_grammar.specs.Ahead.{mark, look, ahead, view}
-use Rattle.lx_grammar.specs.Derives.{Tree, NoTree, Parts, end, token, child, joined, wrap, label, takes, Derives, none, take, node, one, skip, once, stop, more, IsTreeOf}
+use Rattle.lx_grammar.specs.Ahead.{look, ahead, view}
+use Rattle.lx_grammar.specs.Derives.{Tree, NoTree, Parts, end, token, child, joined, wrap, label, Derives, none, take, node, one, skip, once, stop, more, IsTreeOf}
 use Rattle.lx_grammar.specs.Reads.{Reads, done, took, opened, inlined, skipped, given, ended, again}
 use Rattle.lx_grammar.proofs.Tables.{starts, follow, hush}
 use Rattle.lx_grammar.proofs.Below.{number_below}
-use Rattle.lx_grammar.proofs.Checks.{imp, no, every, each_row, left_of, right_of, modus, no_is, or_left, or_right, every_at, row_at, both_of}
-use Rattle.lx_grammar.proofs.Marks.{mark_below, look_below, marks_sound, kinds, ahead_told, ahead_taken}
-use Rattle.lx_grammar.proofs.Test.{within, marks, predict, passes_by, fits, tells, rings, audible, still_token, still, picked_near, picked_far, row_fits}
+use Rattle.lx_grammar.proofs.Checks.{imp, no, every, left_of, right_of, modus, no_is, or_left, or_right, every_at, row_at}
+use Rattle.lx_grammar.proofs.Marks.{look_below, marks_sound, kinds, ahead_told, ahead_taken}
+use Rattle.lx_grammar.proofs.Test.{within, predict, passes_by, fits, tells, rings, audible, still_token, still, picked_near, picked_far, row_fits}
 use Rattle.lx_grammar.proofs.Passed.{passes}
 
 -- each row of the table has passed

@@ -1,13 +1,13 @@
 -- What the sign of a token before others tells: facts that the tests show for each sign.
-use Rattle.std.proofs.Common.{ℕ, Bool, true, false, ◌≡◌, ◌<◌, ◌&&◌, ◌||◌, ◌+◌, ◌-◌, nat_eq, nat_lt, refl, sym, ap, subst, arith, ◌∙◌, List, [], ◌∷◌, if◌then◌else◌}
-use Rattle.std.proofs.lemmas.Bool.{eqb-true, ltb-true, eq-eqb, lt-ltb}
+use Rattle.std.proofs.Common.{ℕ, Bool, true, false, ◌≡◌, ◌<◌, ◌&&◌, ◌||◌, ◌+◌, ◌-◌, nat_eq, nat_lt, refl, sym, ap, subst, ◌∙◌, List, [], ◌∷◌, if◌then◌else◌}
+use Rattle.std.proofs.lemmas.Bool.{eqb-true, ltb-true, eq-eqb}
 use Rattle.lx_grammar.specs.declared.sign.Item.{Item}
 use Rattle.lx_grammar.specs.declared.sign.TheConstants.{OPENING, CLOSING, LOUD, ASSIGNING, ENDS_VALUES}
 use Rattle.lx_grammar.specs.Numbers.{number, accepts}
 use Rattle.lx_grammar.specs.Ahead.{mark, look, ahead}
 use Rattle.lx_grammar.specs.Derives.{takes}
 use Rattle.lx_grammar.proofs.Below.{number_below}
-use Rattle.lx_grammar.proofs.Checks.{imp, no, same, every, some, each_bool, left_of, right_of, modus, same_is, no_is, or_left, or_right, every_at, some_at, bool_at, both_of}
+use Rattle.lx_grammar.proofs.Checks.{imp, no, same, every, some, each_bool, left_of, right_of, modus, same_is, or_left, or_right, every_at, some_at, bool_at, both_of}
 use Rattle.lx_grammar.proofs.Test.{plain, gives, marks, tells}
 
 -- the sign of a token, by the three questions about what stands behind it

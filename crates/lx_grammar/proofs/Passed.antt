@@ -1,15 +1,13 @@
 -- The grammar passes the test: each row, and the facts about signs by which it is read.
-use Rattle.std.proofs.Common.{ℕ, Bool, true, ◌≡◌, ◌&&◌, ◌||◌, nat_eq, nat_lt, refl, length}
+use Rattle.std.proofs.Common.{true, ◌≡◌, refl}
 use Rattle.lx_grammar.specs.declared.grammar.Spot.{Spot}
 use Rattle.lx_grammar.specs.declared.grammar.Spot.TheVariants as spot
-use Rattle.lx_grammar.specs.declared.sign.TheConstants.{OPENING, CLOSING, LOUD, ASSIGNING, ENDS_VALUES}
 use Rattle.lx_grammar.specs.Numbers.{number, accepts}
 use Rattle.lx_grammar.specs.Grammar.{rules}
 use Rattle.lx_grammar.specs.Pick.{pick, is_far}
 use Rattle.lx_grammar.specs.Ahead.{mark}
-use Rattle.lx_grammar.specs.Derives.{takes}
 use Rattle.lx_grammar.proofs.Tables.{starts, follow, hush}
-use Rattle.lx_grammar.proofs.Checks.{imp, no, same, every, some, each_row}
+use Rattle.lx_grammar.proofs.Checks.{every, some, each_row}
 use Rattle.lx_grammar.proofs.Test.{within, plain, gives, marks, predict, passes_by, fits, tells, rings, audible, still, picked_near, picked_far, row_fits}
 
 pub passes : (r : Spot) → each_row (row_fits r) (rules r) ≡ true

@@ -1,5 +1,5 @@
 -- The test that what stands ahead picks the right row everywhere.
-use Rattle.std.proofs.Common.{ℕ, Bool, true, false, ◌≡◌, ◌&&◌, ◌||◌, ◌+◌, ◌-◌, nat_eq, nat_lt, List, [], ◌∷◌, length, if◌then◌else◌}
+use Rattle.std.proofs.Common.{ℕ, Bool, true, false, ◌&&◌, ◌||◌, ◌+◌, ◌-◌, nat_eq, nat_lt, List, [], ◌∷◌, length, if◌then◌else◌}
 use Rattle.lx_grammar.specs.declared.grammar.Spot.{Spot}
 use Rattle.lx_grammar.specs.declared.grammar.Symbol.{Symbol}
 use Rattle.lx_grammar.specs.declared.grammar.Symbol.TheVariants as symbol
@@ -9,7 +9,7 @@ use Rattle.lx_grammar.specs.Grammar.{rules}
 use Rattle.lx_grammar.specs.Pick.{pick, is_far}
 use Rattle.lx_grammar.specs.Ahead.{mark}
 use Rattle.lx_grammar.proofs.Tables.{starts, follow, hush}
-use Rattle.lx_grammar.proofs.Checks.{imp, no, every, some, each_row}
+use Rattle.lx_grammar.proofs.Checks.{imp, no, every, some}
 
 unfoldable pub within : (ℕ → Bool) → (ℕ → Bool) → Bool
 within p q = every 61 (λ k. imp (p k) (q k))

@@ -1,5 +1,5 @@
 -- What stands ahead of a place in the list of tokens: the sign of the next token, seen with those behind it.
-use Rattle.std.specs.Prelude.{ℕ, Bool, List, [], ◌∷◌, nat_eq, nat_lt, ◌||◌, ◌&&◌, ◌+◌, ◌-◌, zero, suc, if◌then◌else◌}
+use Rattle.std.specs.Prelude.{ℕ, List, [], ◌∷◌, nat_eq, nat_lt, ◌&&◌, ◌+◌, ◌-◌, if◌then◌else◌}
 use Rattle.lx_grammar.specs.declared.sign.Item.{Item}
 use Rattle.lx_grammar.specs.declared.grammar.Spot.{Spot}
 use Rattle.lx_grammar.specs.Numbers.{number, accepts}

@@ -1,5 +1,5 @@
 -- The same trees, where at each place the row is the one that is picked by what stands ahead.
-use Rattle.std.specs.Prelude.{ℕ, true, List, [], ◌∷◌, ◌≡◌, Some, None, slice_get}
+use Rattle.std.specs.Prelude.{true, List, [], ◌∷◌, ◌≡◌, Some, None, slice_get}
 use Rattle.lx_grammar.specs.declared.sign.Item.{Item}
 use Rattle.lx_grammar.specs.declared.sign.Sign.{Sign}
 use Rattle.lx_grammar.specs.declared.grammar.Spot.{Spot}

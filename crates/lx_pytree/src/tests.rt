@@ -4,6 +4,7 @@
 use crate::read;
 use crate::tree::{PyPart, Tree};
 use lx_text::{Kind, List, NoMemory, Refusal, Text};
+use lx_token::tokens::tokens;
 use lx_token::{Token, TokenKind};
 use std::alloc::Global;
 use std::test::Fail;
@@ -102,7 +103,11 @@ enum Answer {
 
 fn answered(alloc: Global, text: &str) -> Result<Answer, NoMemory> {
     let tokens = tokens_of(alloc, text)?;
-    Ok(match read(alloc, text.as_bytes(), &tokens) {
+    answered_by(alloc, text, &tokens)
+}
+
+fn answered_by(alloc: Global, text: &str, tokens: &List<Token>) -> Result<Answer, NoMemory> {
+    Ok(match read(alloc, text.as_bytes(), tokens) {
         Ok(_) => Answer::Tree,
         Err(Refusal::Fault(fault)) => match fault.kind {
             Kind::Syntax(number) => Answer::Syntax(number, fault.line),
@@ -353,6 +358,113 @@ fn chains_take_no_stack(rt: HostRuntime) -> Result<(), Fail> {
             answered(rt.alloc(), text.as_str())?,
             Answer::Tree,
             "{piece}"
+        );
+    }
+    Ok(())
+}
+
+// A system with a timer and leds.
+const TIMER: &str = "\
+from migen import *\n\
+from litex.soc.interconnect.csr import *\n\
+from litex.soc.interconnect.csr_eventmanager import *\n\
+from litex.soc.integration.soc_core import *\n\
+\n\
+class Timer(LiteXModule):\n\
+\x20   def __init__(self, width=32):\n\
+\x20       self._load = CSRStorage(width)\n\
+\x20       self._reload = CSRStorage(width)\n\
+\x20       self._en = CSRStorage()\n\
+\x20       self._update_value = CSRStorage()\n\
+\x20       self._value = CSRStatus(width)\n\
+\x20       self.ev = EventManager()\n\
+\x20       self.ev.zero = EventSourceProcess()\n\
+\x20       self.ev.finalize()\n\
+\x20       value = Signal(width)\n\
+\x20       self.sync += [\n\
+\x20           If(self._en.storage,\n\
+\x20               If(value == 0, value.eq(self._reload.storage)).Else(value.eq(value - 1))\n\
+\x20           ).Else(value.eq(self._load.storage)),\n\
+\x20           If(self._update_value.re, self._value.status.eq(value))\n\
+\x20       ]\n\
+\x20       self.comb += self.ev.zero.trigger.eq(value != 0)\n\
+\n\
+class Leds(LiteXModule):\n\
+\x20   def __init__(self, pads):\n\
+\x20       self._out = CSRStorage(8)\n\
+\x20       self.comb += pads.eq(self._out.storage)\n\
+\n\
+class Top(SoCCore):\n\
+\x20   def __init__(self):\n\
+\x20       super().__init__()\n\
+\x20       self.led = Signal(8)\n\
+\x20       self.ios = [self.led]\n\
+\x20       self.add_ram(\"sram\", origin=0x10000000, size=8192)\n\
+\x20       self.timer0 = Timer()\n\
+\x20       self.leds = Leds(self.led)\n\
+\x20       self.irq.add(\"timer0\")\n\
+";
+
+// Descriptions that the grammar refuses.
+const REFUSED: [&str; 9] = [
+    "\
+class A(Module):\n\
+\x20   def __init__(self):\n\
+\x20       x = 1 < 2 < 3\n\
+",
+    "\
+class A(Module):\n\
+\x20   def __init__(self):\n\
+\x20       if 1: pass\n\
+\x20       else: pass\n\
+\x20       elif 2: pass\n\
+",
+    "\
+class A(Module):\n\
+",
+    "\
+import a as b\n\
+",
+    "\
+class A:\n\
+\x20   def __init__(self): pass\n\
+",
+    "\
+class A(Module):\n\
+\x20   def make(self): pass\n\
+",
+    "\
+class A(Module):\n\
+\x20   def __init__(self):\n\
+\x20       x = 1 +\n\
+",
+    "\
+class A(Module):\n\
+\x20   def __init__(self):\n\
+\x20       x = [1]\n\
+\x20       x[0] = 2\n\
+",
+    "\
+class A(Module):\n\
+\x20   def __init__(self): pass\n\
+\x20   def f(self): pass\n\
+",
+];
+
+fn described(alloc: Global, text: &str) -> Result<Answer, NoMemory> {
+    let Ok(found) = tokens(alloc, text.as_bytes()) else {
+        return Ok(Answer::Other);
+    };
+    answered_by(alloc, text, &found)
+}
+
+#[test]
+fn descriptions_are_read(rt: HostRuntime) -> Result<(), Fail> {
+    assert_eq!(rt; described(rt.alloc(), TIMER)?, Answer::Tree);
+    for text in REFUSED {
+        assert!(rt;
+            matches!(described(rt.alloc(), text)?, Answer::Syntax(_, _)),
+            "{text}"
         );
     }
     Ok(())
