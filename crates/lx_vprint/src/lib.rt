@@ -8,3 +8,6 @@ pub mod stmts;
 pub mod whole;
 
 pub use whole::{print, print_parts};
+
+#[cfg(test)]
+mod tests;

@@ -72,7 +72,8 @@ pub grown : (old : List VExpr) (node : VExpr) → EachLower is_below (old ++ nod
 unfolding tree_at
 grown old node low = record {
   longer = omega (arith, length-append old (node ∷ []));
-  stays = λ id lt. within_same (old ++ node ∷ []) old (suc id) (suc id) id (length old) low (λ k l. get_front old (node ∷ []) k l) lt (omega arith) (omega arith) }
+  stays = λ id lt. within_same (old ++ node ∷ []) old (suc id) (suc id) id (length old) low (λ k l. get_front old (node ∷ []) k l) lt (omega arith) (omega arith);
+}
 
 -- a node that is added hangs at the end, and the trees that were there stay
 pub added : (old : List VExpr) (e : VExpr) → EachLower is_below (old ++ e ∷ []) → IsTrue (is_below e (length old)) → Added old (old ++ e ∷ []) (length old) e
@@ -81,4 +82,5 @@ added old e low below =
     record {
       grows = grows;
       within = omega (arith, length-append old (e ∷ []));
-      tree = tree_is (old ++ e ∷ []) (length old) e low (get_last old e) ∙ plant_same (tree_at (old ++ e ∷ [])) (tree_at old) (length old) e below grows.stays }
+      tree = tree_is (old ++ e ∷ []) (length old) e low (get_last old e) ∙ plant_same (tree_at (old ++ e ∷ [])) (tree_at old) (length old) e below grows.stays;
+    }

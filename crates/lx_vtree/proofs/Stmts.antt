@@ -58,7 +58,8 @@ grown : (f : ℕ → tree.VExpr) (old : List VStmt) (node : VStmt) → EachLower
 unfolding stmt_at
 grown f old node low = record {
   longer = omega (arith, length-append old (node ∷ []));
-  stays = λ id lt. within_same f (old ++ node ∷ []) old (suc id) (suc id) id (length old) low (λ k l. get_front old (node ∷ []) k l) lt (omega arith) (omega arith) }
+  stays = λ id lt. within_same f (old ++ node ∷ []) old (suc id) (suc id) id (length old) low (λ k l. get_front old (node ∷ []) k l) lt (omega arith) (omega arith);
+}
 
 -- a statement that is added hangs at the end, and the trees that were there stay
 pub added_stmt : (f : ℕ → tree.VExpr) (old : List VStmt) (s : VStmt) → EachLower is_stmt_below (old ++ s ∷ []) → IsTrue (is_stmt_below s (length old)) → AddedStmt f old (old ++ s ∷ []) (length old) s
@@ -67,7 +68,8 @@ added_stmt f old s low below =
     record {
       grows = grows;
       within = omega (arith, length-append old (s ∷ []));
-      tree = stmt_is f (old ++ s ∷ []) (length old) s low (get_last old s) ∙ plant_stmt_same f (stmt_at f (old ++ s ∷ [])) (stmt_at f old) (length old) s below grows.stays }
+      tree = stmt_is f (old ++ s ∷ []) (length old) s low (get_last old s) ∙ plant_stmt_same f (stmt_at f (old ++ s ∷ [])) (stmt_at f old) (length old) s below grows.stays;
+    }
 
 target_stays : (f g : ℕ → tree.VExpr) (n : ℕ) (t : VTarget) → is_target_placed n t ≡ true → Same f g n → plant_target f t ≡ plant_target g t
 target_stays f g n (target.Whole name) b s = refl

@@ -53,7 +53,8 @@ module_of p = record {
   decls = map decl_of p.decls;
   inits = map sets_of p.inits;
   assigns = map (assign_of (tree_at p.exprs)) p.assigns;
-  always = map (always_of (stmt_at (tree_at p.exprs) p.stmts)) p.always }
+  always = map (always_of (stmt_at (tree_at p.exprs) p.stmts)) p.always;
+}
 
 -- `StmtsPlaced` as a test
 abbrev pub are_placed_stmts : ℕ → List VStmt → Bool

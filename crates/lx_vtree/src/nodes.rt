@@ -39,19 +39,43 @@ pub enum VExpr {
     /// `4'd9`
     Literal(Literal),
     /// `name[hi:lo]`
-    Select { name: Word, hi: u64, lo: u64 },
+    Select {
+        name: Word,
+        hi: u64,
+        lo: u64,
+    },
     /// `name[index]`, a word of a memory
-    Word { name: Word, index: ExprId },
+    Word {
+        name: Word,
+        index: ExprId,
+    },
     /// `(-of)`
-    Unary { op: UnOp, of: ExprId },
+    Unary {
+        op: UnOp,
+        of: ExprId,
+    },
     /// `(left + right)`
-    Binary { left: ExprId, op: BinOp, right: ExprId },
+    Binary {
+        left: ExprId,
+        op: BinOp,
+        right: ExprId,
+    },
     /// `(cond ? so : other)`
-    Choose { cond: ExprId, so: ExprId, other: ExprId },
+    Choose {
+        cond: ExprId,
+        so: ExprId,
+        other: ExprId,
+    },
     /// `{first, more}`, the first part in the highest bits
-    Concat { first: ExprId, more: List<ExprId> },
+    Concat {
+        first: ExprId,
+        more: List<ExprId>,
+    },
     /// `{count{of}}`
-    Repeat { count: u64, of: ExprId },
+    Repeat {
+        count: u64,
+        of: ExprId,
+    },
     /// `$signed(of)`
     ToSigned(ExprId),
     /// `$unsigned(of)`
@@ -64,20 +88,40 @@ pub enum VTarget {
     /// `name`
     Whole(Word),
     /// `name[hi:lo]`
-    Part { name: Word, hi: u64, lo: u64 },
+    Part {
+        name: Word,
+        hi: u64,
+        lo: u64,
+    },
     /// `name[index]`, a word of a memory
-    WholeWord { name: Word, index: ExprId },
+    WholeWord {
+        name: Word,
+        index: ExprId,
+    },
     /// `name[index][hi:lo]`
-    PartWord { name: Word, index: ExprId, hi: u64, lo: u64 },
+    PartWord {
+        name: Word,
+        index: ExprId,
+        hi: u64,
+        lo: u64,
+    },
 }
 
 /// A statement; the statements inside it are named by their places.
 #[derive(Drop)]
 pub enum VStmt {
     /// `target = value;` where it acts at once, else `target <= value;`
-    Assign { target: VTarget, at_once: bool, value: ExprId },
+    Assign {
+        target: VTarget,
+        at_once: bool,
+        value: ExprId,
+    },
     /// `if (cond) begin`, `so`, `end else begin`, `other`, `end`
-    When { cond: ExprId, so: List<StmtId>, other: Option<List<StmtId>> },
+    When {
+        cond: ExprId,
+        so: List<StmtId>,
+        other: Option<List<StmtId>>,
+    },
 }
 
 impl Node for VExpr {
@@ -89,7 +133,10 @@ impl Node for VExpr {
         match self {
             VExpr::Net(_) | VExpr::Literal(_) | VExpr::Select { .. } => true,
             VExpr::Word { index, .. } => index.place < n,
-            VExpr::Unary { of, .. } | VExpr::Repeat { of, .. } | VExpr::ToSigned(of) | VExpr::ToUnsigned(of) => of.place < n,
+            VExpr::Unary { of, .. }
+            | VExpr::Repeat { of, .. }
+            | VExpr::ToSigned(of)
+            | VExpr::ToUnsigned(of) => of.place < n,
             VExpr::Binary { left, right, .. } => left.place < n && right.place < n,
             VExpr::Choose { cond, so, other } => cond.place < n && so.place < n && other.place < n,
             VExpr::Concat { first, more } => first.place < n && exprs_below(more.as_slice(), n),
@@ -117,8 +164,16 @@ impl Node for VStmt {
     fn below(&self, n: usize) -> bool {
         match self {
             VStmt::Assign { .. } => true,
-            VStmt::When { so, other: None, .. } => stmts_below(so.as_slice(), n),
-            VStmt::When { so, other: Some(other), .. } => stmts_below(so.as_slice(), n) && stmts_below(other.as_slice(), n),
+            VStmt::When {
+                so,
+                other: None,
+                ..
+            } => stmts_below(so.as_slice(), n),
+            VStmt::When {
+                so,
+                other: Some(other),
+                ..
+            } => stmts_below(so.as_slice(), n) && stmts_below(other.as_slice(), n),
         }
     }
 }

@@ -49,7 +49,11 @@ pub fn add_expr(exprs: &mut Arena<VExpr>, node: VExpr) -> Result<ExprId, NoMemor
 /// Adds a statement whose parts stand already, and gives its place.
 /// The trees that hung in the arena stay.
 #[tactic(auto, using(crate::proofs::Stmts::added_stmt, crate::proofs::Stmts::placed_more))]
-pub fn add_stmt(exprs: &Arena<VExpr>, stmts: &mut Arena<VStmt>, node: VStmt) -> Result<StmtId, NoMemory>
+pub fn add_stmt(
+    exprs: &Arena<VExpr>,
+    stmts: &mut Arena<VStmt>,
+    node: VStmt,
+) -> Result<StmtId, NoMemory>
     requires below { IsTrue (is_stmt_below node (length stmts.old)) }
     requires placed { IsTrue (is_stmt_placed (length exprs.now) node) }
     requires all { StmtsPlaced (length exprs.now) stmts.old }
