@@ -22,9 +22,19 @@ fn files_are_read_back(rt: HostRuntime) -> Result<(), TestFail> {
         Err(LoadFault::TooLong(front)) => assert_eq!(rt; front.as_slice(), b"modu".as_slice()),
         _ => assert!(rt; false),
     }
-    assert!(rt; matches!(src.load(alloc, b"lx_rows_files/b", 6), Err(LoadFault::NoFile)));
+    assert!(rt;
+        matches!(
+            src.load(alloc, b"lx_rows_files/b", 6),
+            Err(LoadFault::NoFile)
+        )
+    );
     assert!(rt; matches!(src.load(alloc, b"lx_rows_files", 6), Err(LoadFault::Failed)));
-    assert!(rt; matches!(src.load(alloc, b"lx_rows_files/\xff", 6), Err(LoadFault::Failed)));
+    assert!(rt;
+        matches!(
+            src.load(alloc, b"lx_rows_files/\xff", 6),
+            Err(LoadFault::Failed)
+        )
+    );
     let mut con = StdConsole::new(rt.stdout());
     assert!(rt; con.say(b"").is_ok());
     fs::remove_file(&rt, "lx_rows_files/a")?;
