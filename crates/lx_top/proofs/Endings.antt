@@ -2,6 +2,7 @@
 use Rattle.std.proofs.Common.{◌≡◌, ℕ, ◌≤◌, List, Option, Some, None, Result, Ok, Err, refl, sym, ap, subst, ◌∙◌, length, inl, inr, arith, ◌+◌, ◌<◌}
 use Rattle.lx_outside.specs.declared.calls.Pair.{Pair}
 use Rattle.lx_outside.specs.Calls.{Loads}
+use Rattle.lx_outside.specs.declared.calls.LoadFault.{LoadFault}
 use Rattle.lx_outside.specs.declared.calls.LoadFault.TheVariants as faults
 use Rattle.lx_form.specs.declared.file.File.{File}
 use Rattle.lx_form.specs.Form.{Says}
@@ -26,9 +27,13 @@ makes_from told name bytes before now (Err fault.NotYetBuilt) has short d = reco
 makes_from told name bytes before now (Err fault.NoMemory) has short d = tt
 
 -- the file that is too long
-pub long_from : (told : Option (List Pair)) (name : List ℕ) (before now : ℕ) (front : List ℕ) → Loads told name max_bytes before now (Err (faults.TooLong front)) → IsLongFile told name
+long_from : (told : Option (List Pair)) (name : List ℕ) (before now : ℕ) (front : List ℕ) → Loads told name max_bytes before now (Err (faults.TooLong front)) → IsLongFile told name
 long_from None name before now front l = record { bytes = front; loaded = tt; long = omega (arith, l.0) }
 long_from (Some files) name before now front l = record { bytes = l.1.file; loaded = l.1.found; long = l.1.cut_off.longer }
+
+pub long_by : (told : Option (List Pair)) (name : List ℕ) (before now : ℕ) (f : LoadFault) (front : List ℕ) → f ≡ faults.TooLong front → Loads told name max_bytes before now (Err f) → IsLongFile told name
+long_by told name before now f front e l =
+    long_from told name before now front (subst (λ (x : LoadFault). Loads told name max_bytes before now (Err x)) e l)
 
 pub ends_delivered : (words : List (List ℕ)) (a b : World) (p : Product) (s : Status) → command_of words ≡ Some command.Build → Makes a.files (word_at words 1) a.load_faults b.load_faults (Ok p)
     → Delivers (build_files p.text) p.summary a b s → Ends words a b s

@@ -30,7 +30,7 @@ pub fn deliver<K: Sink, C: Console, E: Console>(
           error_faults = E.faults err.old;
         })
         (record {
-          files = files;
+          files = later;
           load_faults = now;
           stored = K.stored out.new;
           store_faults = K.faults out.new;

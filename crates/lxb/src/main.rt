@@ -18,6 +18,13 @@ fn main(rt: HostRuntime) -> ExitCode {
     let mut out = FileSink::new(&rt);
     let mut con = StdConsole::new(rt.stdout());
     let mut err = StdConsole::new(rt.stderr());
-    let status = lxb(rt.alloc(), words.as_slice(), &mut src, &mut out, &mut con, &mut err);
+    let status = lxb(
+        rt.alloc(),
+        words.as_slice(),
+        &mut src,
+        &mut out,
+        &mut con,
+        &mut err,
+    );
     ExitCode::from(status as u8)
 }
