@@ -31,8 +31,8 @@ next_fits c k state v rises s x Input = s.each x
 next_fits c k state v rises s x Comb = s.each x
 next_fits c k state v rises s x (Sync d) =
     choice_fits c x (rises d) (risen c v (domain_at c d) x) (state x)
-      (choice_fits c x (is_reset v (domain_at c d).reset && not (made c x).reset_less) (made c x).reset (result (shapes c) x (v x) (taken_block (shapes c) v (domain_at c d).stmts)) (k.each x).fits (result_fits c k x (v x) (taken_block (shapes c) v (domain_at c d).stmts)))
-      (s.each x)
+    (choice_fits c x (is_reset v (domain_at c d).reset && not (made c x).reset_less) (made c x).reset (result (shapes c) x (v x) (taken_block (shapes c) v (domain_at c d).stmts)) (k.each x).fits (result_fits c k x (v x) (taken_block (shapes c) v (domain_at c d).stmts)))
+    (s.each x)
 next_fits c k state v rises s x Undriven = s.each x
 
 pub next_state_fits : (c : Circuit) → KeepsShapes c → (state v : Values) (rises : ℕ → Bool) → StateFits c state → StateFits c (next_state c state v rises)

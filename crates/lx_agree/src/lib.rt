@@ -7,5 +7,4 @@ ghost use Rattle.lx_agree.specs.Following.{IsAgreementLaw};
 /// agrees with it after every list of steps.
 pub fn agreement_law()
     ensures { IsAgreementLaw }
-{
-}
+{}

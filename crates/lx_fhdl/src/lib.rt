@@ -5,8 +5,8 @@
 pub mod design;
 pub mod eval;
 pub mod exprs;
-pub mod places;
 pub mod laws;
+pub mod places;
 pub mod steps;
 
 pub use design::{Arm, Branch, Design, Domain, Signal, Stmt, SyncPart, Target};

@@ -1,7 +1,6 @@
 -- What a net is hangs on what its driver reads alone.
 use Rattle.std.proofs.Common.{◌≡◌, ℕ, Bool, true, false, List, [], ◌∷◌, ◌||◌, ◌&&◌, ◌+◌, ◌-◌, ◌*◌, ◌^◌, ◌%◌, cond, refl, sym, ◌∙◌, ap, max, not, nat_eq, ℤ, ◌/◌, eq-eqb}
 use Rattle.std.specs.Str.{bytes_eq}
-
 use Rattle.lx_num.specs.Ints.{read_bits}
 use Rattle.lx_vtext.specs.declared.operators.UnOp.{UnOp}
 use Rattle.lx_vtext.specs.declared.operators.UnOp.TheVariants.{Negate, Invert}
@@ -36,6 +35,7 @@ same_name (b ∷ bs) = and_both (nat_eq b b) (bytes_eq bs bs) (same_byte b) (sam
   where
     same_byte : (b : ℕ) → nat_eq b b ≡ true
     same_byte b = eq-eqb b b refl
+
     and_both : (x y : Bool) → x ≡ true → y ≡ true → (x && y) ≡ true
     and_both x y e f = ap (λ z. z && y) e ∙ f
 
@@ -90,19 +90,19 @@ mutual
   meaning_same d v u (Select n hi lo) h m w t = ap (λ (p : ℕ). extend (hi - lo + 1) w t (p / 2 ^ lo % 2 ^ (hi - lo + 1))) (h n (same_name n))
   meaning_same d v u (Word n index) h m w t =
       two_same (λ (f : Name → ℕ → ℕ) (k : ℕ). extend (d n).bits w t (read_word (d n).depth (f n) k)) v.words u.words (own (meaning d index) v) (own (meaning d index) u) m
-        (meaning_same d v u index h m (meaning d index).width (meaning d index).signed)
+      (meaning_same d v u index h m (meaning d index).width (meaning d index).signed)
   meaning_same d v u (Unary o a) h m w t = unary_same v u o (meaning d a) (meaning_same d v u a h m) w t
   meaning_same d v u (Binary a o b) h m w t =
       binary_same v u o (meaning d a) (meaning d b) (meaning_same d v u a (left_of v u (λ k. reads k a) (λ k. reads k b) h) m) (meaning_same d v u b (right_of v u (λ k. reads k a) (λ k. reads k b) h) m) w t
   meaning_same d v u (Choose c a b) h m w t =
       let g = right_of v u (λ k. reads k c) (λ k. reads k a || reads k b) h in
       choose_same v u (meaning d c) (meaning d a) (meaning d b) (meaning_same d v u c (left_of v u (λ k. reads k c) (λ k. reads k a || reads k b) h) m)
-        (meaning_same d v u a (left_of v u (λ k. reads k a) (λ k. reads k b) g) m) (meaning_same d v u b (right_of v u (λ k. reads k a) (λ k. reads k b) g) m) w t
+      (meaning_same d v u a (left_of v u (λ k. reads k a) (λ k. reads k b) g) m) (meaning_same d v u b (right_of v u (λ k. reads k a) (λ k. reads k b) g) m) w t
   meaning_same d v u (Concat a as_) h m w t =
       ap (λ p. extend (width_sum (meaning d a ∷ meanings d as_)) w t p)
-        (two_same (λ (x y : ℕ). x * 2 ^ width_sum (meanings d as_) + y) (own (meaning d a) v) (own (meaning d a) u) (concat_bits (meanings d as_) v) (concat_bits (meanings d as_) u)
-          (meaning_same d v u a (left_of v u (λ k. reads k a) (λ k. some_reads k as_) h) m (meaning d a).width (meaning d a).signed)
-          (parts_same d v u as_ (right_of v u (λ k. reads k a) (λ k. some_reads k as_) h) m))
+      (two_same (λ (x y : ℕ). x * 2 ^ width_sum (meanings d as_) + y) (own (meaning d a) v) (own (meaning d a) u) (concat_bits (meanings d as_) v) (concat_bits (meanings d as_) u)
+      (meaning_same d v u a (left_of v u (λ k. reads k a) (λ k. some_reads k as_) h) m (meaning d a).width (meaning d a).signed)
+      (parts_same d v u as_ (right_of v u (λ k. reads k a) (λ k. some_reads k as_) h) m))
   meaning_same d v u (Repeat k a) h m w t =
       ap (λ p. extend (k * (meaning d a).width) w t (repeated k (meaning d a).width p)) (meaning_same d v u a h m (meaning d a).width (meaning d a).signed)
   meaning_same d v u (ToSigned a) h m w t = ap (λ p. extend (meaning d a).width w t p) (meaning_same d v u a h m (meaning d a).width (meaning d a).signed)
@@ -112,8 +112,8 @@ mutual
   parts_same d v u NoMore h m = refl
   parts_same d v u (More a as_) h m =
       two_same (λ (x y : ℕ). x * 2 ^ width_sum (meanings d as_) + y) (own (meaning d a) v) (own (meaning d a) u) (concat_bits (meanings d as_) v) (concat_bits (meanings d as_) u)
-        (meaning_same d v u a (left_of v u (λ k. reads k a) (λ k. some_reads k as_) h) m (meaning d a).width (meaning d a).signed)
-        (parts_same d v u as_ (right_of v u (λ k. reads k a) (λ k. some_reads k as_) h) m)
+      (meaning_same d v u a (left_of v u (λ k. reads k a) (λ k. some_reads k as_) h) m (meaning d a).width (meaning d a).signed)
+      (parts_same d v u as_ (right_of v u (λ k. reads k a) (λ k. some_reads k as_) h) m)
 
 pub assigned_same : (d : Sizes) (v u : Valuation) (n : ℕ) (e : VExpr) → AgreeOn v u (λ k. reads k e) → v.words ≡ u.words → assigned d v n e ≡ assigned d u n e
 assigned_same d v u n e h m = ap (λ (p : ℕ). p % 2 ^ n) (meaning_same d v u e h m (max n (meaning d e).width) (meaning d e).signed)
@@ -133,9 +133,9 @@ mutual
   stmt_same d v u (When c so other) h m old =
       let g = right_of v u (λ k. reads k c) (λ k. block_reads k so || else_reads k other) h in
       same_branch (holds d v c) (holds d u c) (run_block d v so old) (run_block d u so old) (run_else d v other old) (run_else d u other old)
-        (ap (λ (p : ℕ). not (nat_eq p 0)) (meaning_same d v u c (left_of v u (λ k. reads k c) (λ k. block_reads k so || else_reads k other) h) m (meaning d c).width (meaning d c).signed))
-        (block_same d v u so (left_of v u (λ k. block_reads k so) (λ k. else_reads k other) g) m old)
-        (else_same d v u other (right_of v u (λ k. block_reads k so) (λ k. else_reads k other) g) m old)
+      (ap (λ (p : ℕ). not (nat_eq p 0)) (meaning_same d v u c (left_of v u (λ k. reads k c) (λ k. block_reads k so || else_reads k other) h) m (meaning d c).width (meaning d c).signed))
+      (block_same d v u so (left_of v u (λ k. block_reads k so) (λ k. else_reads k other) g) m old)
+      (else_same d v u other (right_of v u (λ k. block_reads k so) (λ k. else_reads k other) g) m old)
 
   pub else_same : (d : Sizes) (v u : Valuation) (s : VElse) → AgreeOn v u (λ k. else_reads k s) → v.words ≡ u.words → (old : ℕ) → run_else d v s old ≡ run_else d u s old
   else_same d v u NoElse h m old = refl

@@ -25,7 +25,7 @@ stable : (m : VModule) (o : HasNoLoop m) (state : Valuation) (inputs : Name → 
 stable m o state inputs zero n h = absurd (omega arith)
 stable m o state inputs (suc i) n h =
     by_driver_same m state inputs (round m state inputs i) (round m state inputs (suc i)) n (driver m n)
-      (λ k r. let below : o.rank k < o.rank n = o.falls n k r in stable m o state inputs i k (omega arith)) refl
+    (λ k r. let below : o.rank k < o.rank n = o.falls n k r in stable m o state inputs i k (omega arith)) refl
 
 -- from its round on a net stays
 stays : (m : VModule) (o : HasNoLoop m) (state : Valuation) (inputs : Name → ℕ) (k : ℕ) (n : Name) → rounds m state inputs (k + suc (o.rank n)) n ≡ rounds m state inputs (suc (o.rank n)) n
