@@ -16,15 +16,34 @@ use Rattle.lx_top.specs.declared.status.Status.TheVariants as status
 use Rattle.lx_top.specs.Commands.{command_of, word_at}
 use Rattle.lx_top.specs.Lines.{max_bytes, build_files}
 use Rattle.lx_top.specs.Outcome.{World, Has, IsBuildOf, IsLongFile, Delivers, IsUntouched, Tells, RefusedBy, HasFault, Ends}
-use Rattle.lx_top.specs.Making.{Describes, Makes, fault_line, fault_status}
+use Rattle.lx_top.specs.Making.{Describes, Translates, TellsFault, Makes, fault_line, fault_status}
+use Rattle.lx_text.specs.declared.faults.Fault.{Fault}
+use Rattle.lx_top.specs.Judging.{IsReadable, HasTextFault}
 
 -- the product of what was loaded
-pub makes_from : (told : Option (List Pair)) (name bytes : List ℕ) (before now : ℕ) (r : Result Product BuildFault) → Has told name bytes → length bytes ≤ max_bytes → Describes bytes r → Makes told name before now r
-makes_from told name bytes before now (Ok p) has short d = record { bytes = bytes; loaded = has; short = short; description = d.description; says = d.says; text_of = d.text_of; summary_is = d.summary_is }
+pub makes_from : (told : Option (List Pair)) (name bytes : List ℕ) (before now : ℕ) (r : Result Product BuildFault) → Has told name bytes → length bytes ≤ max_bytes → Describes name bytes r → Makes told name before now r
+makes_from told name bytes before now (Ok p) has short d = record { bytes = bytes; loaded = has; short = short; readable = d.0; description = d.1.description; says = d.1.says; text_of = d.1.text_of; summary_is = d.1.summary_is }
 makes_from told name bytes before now (Err fault.Read) has short d = absurd d
 makes_from told name bytes before now (Err fault.TooLong) has short d = absurd d
-makes_from told name bytes before now (Err fault.NotYetBuilt) has short d = record { bytes = bytes; loaded = has; short = short; no_form = d }
+makes_from told name bytes before now (Err (fault.Text line)) has short d = record { bytes = bytes; loaded = has; short = short; fault = d.0; has = d.1; line_is = d.2 }
+makes_from told name bytes before now (Err fault.NotYetBuilt) has short d = record { bytes = bytes; loaded = has; short = short; readable = d.0; no_form = d.1 }
 makes_from told name bytes before now (Err fault.NoMemory) has short d = tt
+
+-- a readable text's product, or why it has none
+pub describes_from : (name bytes : List ℕ) (r : Result Product BuildFault) → IsReadable bytes → Translates bytes r → Describes name bytes r
+describes_from name bytes (Ok p) readable t = (readable, t)
+describes_from name bytes (Err fault.Read) readable t = absurd t
+describes_from name bytes (Err fault.TooLong) readable t = absurd t
+describes_from name bytes (Err (fault.Text line)) readable t = absurd t
+describes_from name bytes (Err fault.NotYetBuilt) readable t = (readable, t)
+describes_from name bytes (Err fault.NoMemory) readable t = tt
+
+pub describes_fault : (name bytes : List ℕ) (f : Fault) (b : BuildFault) → HasTextFault bytes f → TellsFault name f b → Describes name bytes (Err b)
+describes_fault name bytes f fault.Read has t = absurd t
+describes_fault name bytes f fault.TooLong has t = absurd t
+describes_fault name bytes f (fault.Text line) has t = (f, has, t)
+describes_fault name bytes f fault.NotYetBuilt has t = absurd t
+describes_fault name bytes f fault.NoMemory has t = tt
 
 -- the file that is too long
 long_from : (told : Option (List Pair)) (name : List ℕ) (before now : ℕ) (front : List ℕ) → Loads told name max_bytes before now (Err (faults.TooLong front)) → IsLongFile told name
@@ -52,7 +71,8 @@ reported : (words : List (List ℕ)) (a b : World) (f : BuildFault) → command_
     → IsUntouched a b → Tells a b (fault_line (word_at words 1) f) → Ends words a b (fault_status f)
 reported words a b fault.Read is made untouched told = record { command = is; cause = made; untouched = untouched; line = told }
 reported words a b fault.TooLong is made untouched told = refused words a b (fault_line (word_at words 1) fault.TooLong) is (inl (refl, made)) untouched told
-reported words a b fault.NotYetBuilt is made untouched told = refused words a b (fault_line (word_at words 1) fault.NotYetBuilt) is (inr (refl, made)) untouched told
+reported words a b (fault.Text line) is made untouched told = refused words a b line is (inr (inl made)) untouched told
+reported words a b fault.NotYetBuilt is made untouched told = refused words a b (fault_line (word_at words 1) fault.NotYetBuilt) is (inr (inr (refl, made))) untouched told
 reported words a b fault.NoMemory is made untouched told = record { command = is; untouched = untouched; line = told }
 
 pub ends_reported : (words : List (List ℕ)) (a b : World) (f : BuildFault) (s : Status) → command_of words ≡ Some command.Build → Makes a.files (word_at words 1) a.load_faults b.load_faults (Err f)

@@ -9,6 +9,7 @@ use Rattle.lx_top.specs.declared.status.Status.{Status}
 use Rattle.lx_top.specs.declared.status.Status.TheVariants as status
 use Rattle.lx_top.specs.Commands.{command_of, word_at}
 use Rattle.lx_top.specs.Lines.{max_bytes}
+use Rattle.lx_top.specs.Judging.{IsReadable}
 use Rattle.lx_top.specs.Outcome.{World, Ends}
 
 -- The words are a build, the source tells its files, the named one holds a description without a fault,
@@ -20,6 +21,7 @@ pub record IsSound (words : List (List ℕ)) (a b : World) : Type 0 where
   pub bytes : List ℕ
   pub found : file_of files (word_at words 1) ≡ Some bytes
   pub short : length bytes ≤ max_bytes
+  pub readable : IsReadable bytes
   pub description : File
   pub says : Says bytes description
   pub load : Rose a.load_faults b.load_faults → ⊥

@@ -2,6 +2,9 @@
 use Rattle.std.specs.Prelude.{◌≡◌, ℕ, ◌≤◌, ◌<◌, List, [], ◌∷◌, ◌++◌, Option, Some, None, IfSome, length, codes, ◌⊎◌}
 use Rattle.lx_outside.specs.declared.calls.Pair.{Pair}
 use Rattle.lx_outside.specs.Calls.{Rose, file_of, Gains, SaysPart, StoresPart}
+use Rattle.lx_text.specs.declared.faults.Fault.{Fault}
+use Rattle.lx_text.specs.FaultLine.{line_text}
+use Rattle.lx_top.specs.Judging.{IsReadable, HasTextFault}
 use Rattle.lx_form.specs.declared.file.File.{File}
 use Rattle.lx_form.specs.Form.{Says, HasNoForm}
 use Rattle.lx_translate.specs.Translation.{IsTextOf}
@@ -37,6 +40,7 @@ pub record IsBuildOf (told : Option (List Pair)) (name text summary : List ℕ) 
   pub bytes : List ℕ
   pub loaded : Has told name bytes
   pub short : length bytes ≤ max_bytes
+  pub readable : IsReadable bytes
   pub description : File
   pub says : Says bytes description
   pub text_of : IsTextOf description text
@@ -48,11 +52,21 @@ pub record IsLongFile (told : Option (List Pair)) (name : List ℕ) : Type 0 whe
   pub loaded : Has told name bytes
   pub long : max_bytes < length bytes
 
--- the file holds no description that is built yet
+-- the text of the file has a fault, of which this is the line
+pub record HasTextLine (told : Option (List Pair)) (name line : List ℕ) : Type 0 where
+  pub bytes : List ℕ
+  pub loaded : Has told name bytes
+  pub short : length bytes ≤ max_bytes
+  pub fault : Fault
+  pub has : HasTextFault bytes fault
+  pub line_is : line ≡ line_text name fault
+
+-- the file holds a text without a fault, and no description that is built yet
 pub record HasNoBuild (told : Option (List Pair)) (name : List ℕ) : Type 0 where
   pub bytes : List ℕ
   pub loaded : Has told name bytes
   pub short : length bytes ≤ max_bytes
+  pub readable : IsReadable bytes
   pub no_form : HasNoForm bytes
 
 -- the whole line was said, or a prefix of it where saying it failed
@@ -128,7 +142,7 @@ pub record IsReadFault (words : List (List ℕ)) (a b : World) : Type 0 where
 -- the fault that the description has, and its line
 abbrev pub HasFault : Option (List Pair) → List ℕ → List ℕ → Type 0
 HasFault told name line =
-    ((line ≡ too_long_line name) × IsLongFile told name) ⊎ ((line ≡ not_built_line name) × HasNoBuild told name)
+    ((line ≡ too_long_line name) × IsLongFile told name) ⊎ (HasTextLine told name line ⊎ ((line ≡ not_built_line name) × HasNoBuild told name))
 
 -- a command that isn't built yet is refused by its name
 abbrev pub RefusedBy : Option Command → List (List ℕ) → World → List ℕ → Type 0

@@ -70,6 +70,10 @@ pub fn report<E: Console>(name: &[u8], fault: BuildFault, err: &mut E) -> Status
             say_pieces(err, name, b":0: TooLong 1048576\n");
             Status::Refused
         }
+        BuildFault::Text(line) => {
+            say_line(err, line.as_bytes());
+            Status::Refused
+        }
         BuildFault::NotYetBuilt => {
             say_pieces(err, name, b":0: NotYetBuilt\n");
             Status::Refused

@@ -5,6 +5,7 @@ pub mod adapters;
 pub mod building;
 pub mod commands;
 pub mod delivering;
+pub mod judging;
 pub mod laws;
 pub mod run;
 mod saying;
