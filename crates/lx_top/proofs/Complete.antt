@@ -1,15 +1,12 @@
 -- Where nothing fails and the description has no fault, a run is done or out of memory.
-use Rattle.std.proofs.Common.{◌≡◌, ℕ, ◌≤◌, ◌<◌, List, Option, Some, None, refl, sym, ap, subst, ◌∙◌, length, inl, inr, ◌⊎◌, arith}
+use Rattle.std.proofs.Common.{◌≡◌, ℕ, List, Option, Some, None, refl, sym, ap, subst, length, inl, inr, arith}
 use Rattle.lx_outside.specs.declared.calls.Pair.{Pair}
-use Rattle.lx_outside.specs.Calls.{Rose, file_of}
-use Rattle.lx_form.specs.Form.{Says, HasNoForm}
+use Rattle.lx_outside.specs.Calls.{file_of}
+use Rattle.lx_form.specs.Form.{Says}
 use Rattle.lx_top.specs.declared.commands.Command.{Command}
-use Rattle.lx_top.specs.declared.commands.Command.TheVariants as command
-use Rattle.lx_top.specs.declared.status.Status.{Status}
 use Rattle.lx_top.specs.declared.status.Status.TheVariants as status
-use Rattle.lx_top.specs.Commands.{command_of, word_at}
-use Rattle.lx_top.specs.Lines.{max_bytes}
-use Rattle.lx_top.specs.Outcome.{World, Has, LacksFile, RefusedBy, HasFault, Ends}
+use Rattle.lx_top.specs.Commands.{word_at}
+use Rattle.lx_top.specs.Outcome.{World, Has, LacksFile, RefusedBy, HasFault}
 use Rattle.lx_top.specs.Completeness.{IsSound, IsCompletenessLaw}
 
 -- the bytes that a told file has

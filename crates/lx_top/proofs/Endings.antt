@@ -1,11 +1,9 @@
 -- A build's end, from what its parts did.
-use Rattle.std.proofs.Common.{◌≡◌, ℕ, ◌≤◌, List, Option, Some, None, Result, Ok, Err, refl, sym, ap, subst, ◌∙◌, length, inl, inr, arith, ◌+◌, ◌<◌}
+use Rattle.std.proofs.Common.{◌≡◌, ℕ, ◌≤◌, List, Option, Some, None, Result, Ok, Err, refl, sym, subst, length, inl, inr, arith}
 use Rattle.lx_outside.specs.declared.calls.Pair.{Pair}
 use Rattle.lx_outside.specs.Calls.{Loads}
 use Rattle.lx_outside.specs.declared.calls.LoadFault.{LoadFault}
 use Rattle.lx_outside.specs.declared.calls.LoadFault.TheVariants as faults
-use Rattle.lx_form.specs.declared.file.File.{File}
-use Rattle.lx_form.specs.Form.{Says}
 use Rattle.lx_top.specs.declared.commands.Command.{Command}
 use Rattle.lx_top.specs.declared.commands.Command.TheVariants as command
 use Rattle.lx_top.specs.declared.building.Product.{Product}
@@ -15,7 +13,7 @@ use Rattle.lx_top.specs.declared.status.Status.{Status}
 use Rattle.lx_top.specs.declared.status.Status.TheVariants as status
 use Rattle.lx_top.specs.Commands.{command_of, word_at}
 use Rattle.lx_top.specs.Lines.{max_bytes, build_files}
-use Rattle.lx_top.specs.Outcome.{World, Has, IsBuildOf, IsLongFile, Delivers, IsUntouched, Tells, RefusedBy, HasFault, Ends}
+use Rattle.lx_top.specs.Outcome.{World, Has, IsLongFile, Delivers, IsUntouched, Tells, RefusedBy, HasFault, Ends}
 use Rattle.lx_top.specs.Making.{Describes, Makes, fault_line, fault_status}
 
 -- the product of what was loaded
