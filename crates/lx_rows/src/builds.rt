@@ -55,7 +55,7 @@ struct Want<'a> {
     errors: &'a [u8],
 }
 
-fn words_of(alloc: Global, all: &[&[u8]]) -> Result<List<Word>, NoMemory> {
+pub(crate) fn words_of(alloc: Global, all: &[&[u8]]) -> Result<List<Word>, NoMemory> {
     let mut words = List::new(alloc);
     for one in all {
         words.push(Word::new(alloc, one)?)?;
@@ -63,7 +63,7 @@ fn words_of(alloc: Global, all: &[&[u8]]) -> Result<List<Word>, NoMemory> {
     Ok(words)
 }
 
-fn add_file(
+pub(crate) fn add_file(
     alloc: Global,
     files: &mut List<Pair>,
     name: &[u8],
@@ -213,7 +213,7 @@ fn other_words_are_refused(rt: HostRuntime) -> Result<(), TestFail> {
         alloc,
         &[build, b"empty.py"],
         Status::Refused,
-        b"empty.py:0: NotYetBuilt\n",
+        b"empty.py:0: NoTop\n",
     )?;
     refused(
         &rt,

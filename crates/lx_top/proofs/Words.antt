@@ -1,5 +1,5 @@
 -- Lists of two words, of three, and of other lengths.
-use Rattle.std.proofs.Common.{◌≡◌, ◌≢◌, ℕ, List, [], ◌∷◌, length, Option, Some, None, refl, arith}
+use Rattle.std.proofs.Common.{◌≡◌, ℕ, List, [], ◌∷◌, length, None, refl, arith}
 use Rattle.lx_top.specs.Commands.{command_of, command_of_two, command_of_three, word_at}
 
 pub of_two : (words : List (List ℕ)) → length words ≡ 2 → command_of_two (word_at words 0) (word_at words 1) ≡ command_of words

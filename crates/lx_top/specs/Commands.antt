@@ -1,5 +1,5 @@
 -- Which lists of words are commands.
-use Rattle.std.specs.Prelude.{ℕ, Bool, true, false, List, [], ◌∷◌, ◌+◌, ◌-◌, ◌*◌, Option, Some, None, codes, not, ◌&&◌, nat_le, if◌then◌else◌, unwrap_or, slice_get}
+use Rattle.std.specs.Prelude.{ℕ, Bool, true, false, List, [], ◌∷◌, ◌+◌, ◌-◌, ◌*◌, Option, Some, None, codes, ◌&&◌, nat_le, if◌then◌else◌, unwrap_or, slice_get}
 use Rattle.std.specs.Str.{bytes_eq}
 use Rattle.lx_top.specs.declared.commands.Command.{Command}
 use Rattle.lx_top.specs.declared.commands.Command.TheVariants.{Build, Map, Sim, Poke, Gen}

@@ -1,5 +1,5 @@
 -- What a run of the program leaves, by its status.
-use Rattle.std.specs.Prelude.{◌≡◌, ℕ, ◌≤◌, ◌<◌, List, [], ◌∷◌, ◌++◌, Option, Some, None, IfSome, length, codes, ◌⊎◌}
+use Rattle.std.specs.Prelude.{◌≡◌, ℕ, ◌≤◌, ◌<◌, List, ◌∷◌, ◌++◌, Option, Some, None, IfSome, length, codes, ◌⊎◌}
 use Rattle.lx_outside.specs.declared.calls.Pair.{Pair}
 use Rattle.lx_outside.specs.Calls.{Rose, file_of, Gains, SaysPart, StoresPart}
 use Rattle.lx_text.specs.declared.faults.Fault.{Fault}
