@@ -5,3 +5,5 @@
 mod adapters;
 #[cfg(test)]
 mod builds;
+#[cfg(test)]
+mod texts;

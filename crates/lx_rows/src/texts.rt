@@ -45,7 +45,10 @@ fn texts_are_judged(rt: HostRuntime) -> Result<(), Fail> {
         (brackets.as_slice(), b"f.py:1: TooDeep 64\n"),
         (number, b"f.py:1: NumberRange\n"),
         (b"", b"f.py:0: NoTop\n"),
-        (b"# no class\nfrom migen import *\n'text'\n", b"f.py:0: NoTop\n"),
+        (
+            b"# no class\nfrom migen import *\n'text'\n",
+            b"f.py:0: NoTop\n",
+        ),
         (
             b"class A(Module):\n    def __init__(self):\n        pass\n",
             b"f.py:0: NotYetBuilt\n",
