@@ -311,25 +311,18 @@ pub fn eval_into<L: Ledger>(
 mod tests {
     use super::*;
 
-    const fn shape(bits: u8, signed: bool) -> Shape {
-        Shape { bits, signed }
+    macro_rules! shape {
+        ($n:literal $s:literal) => {
+            Shape {
+                bits: $n,
+                signed: $s,
+            }
+        };
     }
 
     macro_rules! value {
         ($op:ident, $n:literal $s:literal $x:literal, $m:literal $t:literal $y:literal) => {
-            binary(
-                Op::$op,
-                Shape {
-                    bits: $n,
-                    signed: $s,
-                },
-                Shape {
-                    bits: $m,
-                    signed: $t,
-                },
-                $x,
-                $y,
-            )
+            binary(Op::$op, shape!($n $s), shape!($m $t), $x, $y)
         };
     }
 
@@ -367,14 +360,14 @@ mod tests {
 
     #[test]
     fn other_operators(rt: HostRuntime) {
-        assert_eq!(rt; unary(Op::Not, shape(1, false), 1), 0);
-        assert_eq!(rt; unary(Op::Not, shape(4, false), 5), 10);
-        assert_eq!(rt; unary(Op::Not, shape(4, true), 5), -6);
-        assert_eq!(rt; unary(Op::Neg, shape(4, true), -8), 8);
+        assert_eq!(rt; unary(Op::Not, shape!(1 false), 1), 0);
+        assert_eq!(rt; unary(Op::Not, shape!(4 false), 5), 10);
+        assert_eq!(rt; unary(Op::Not, shape!(4 true), 5), -6);
+        assert_eq!(rt; unary(Op::Neg, shape!(4 true), -8), 8);
         assert_eq!(rt; choose(0, 5, 7), 7);
         assert_eq!(rt; choose(-1, 5, 7), 5);
-        assert_eq!(rt; replicate(shape(2, false), 3, 2), 42);
-        assert_eq!(rt; slice(shape(8, false), 4, 8, 0xc5), 12);
+        assert_eq!(rt; replicate(shape!(2 false), 3, 2), 42);
+        assert_eq!(rt; slice(shape!(8 false), 4, 8, 0xc5), 12);
         assert_eq!(rt; place_of(3, 2), 2);
     }
 }
