@@ -35,7 +35,7 @@ struct Stated {
     number: Option<u32>,
 }
 
-const fn stated(name: &'static [u8], number: Option<u32>) -> Stated {
+const fn stated_for(name: &'static [u8], number: Option<u32>) -> Stated {
     Stated { name, number }
 }
 
@@ -104,7 +104,7 @@ fn answer(rt: &impl Abort, alloc: Global, w: &Wishes) -> Result<Text, NoMemory> 
     Ok(text)
 }
 
-const fn area(name: &'static [u8], origin: Option<u64>, size: u64) -> Area {
+const fn area_at(name: &'static [u8], origin: Option<u64>, size: u64) -> Area {
     Area { name, origin, size }
 }
 
@@ -139,87 +139,87 @@ fn places_regions(rt: HostRuntime) -> Result<(), Fail> {
     let maps = [
         Map {
             areas: &[
-                area(b"a", Some(0x10000000), 0x1800),
-                area(b"b", Some(0x10001800), 0x800),
+                area_at(b"a", Some(0x10000000), 0x1800),
+                area_at(b"b", Some(0x10001800), 0x800),
             ],
             cached: true,
             wanted: b"t:2: RegionOverlap a b\n",
         },
         Map {
             areas: &[
-                area(b"a", Some(0x10000000), 0x1800),
-                area(b"b", Some(0x10002000), 0x800),
+                area_at(b"a", Some(0x10000000), 0x1800),
+                area_at(b"b", Some(0x10002000), 0x800),
             ],
             cached: true,
             wanted: b" 0x10000000 0x10002000",
         },
         Map {
             areas: &[
-                area(b"a", Some(0x10000000), 0x1800),
-                area(b"b", Some(0x10000400), 0x800),
+                area_at(b"a", Some(0x10000000), 0x1800),
+                area_at(b"b", Some(0x10000400), 0x800),
             ],
             cached: true,
             wanted: b"t:2: RegionMisaligned b 0x10000400 0x00000800\n",
         },
         Map {
             areas: &[
-                area(b"a", Some(0x0), 0x1000),
-                area(b"b", None, 0x1000),
-                area(b"c", None, 0x40000000),
-                area(b"d", None, 0x20000000),
-                area(b"e", None, 0x10000000),
+                area_at(b"a", Some(0x0), 0x1000),
+                area_at(b"b", None, 0x1000),
+                area_at(b"c", None, 0x40000000),
+                area_at(b"d", None, 0x20000000),
+                area_at(b"e", None, 0x10000000),
             ],
             cached: true,
             wanted: b" 0x00000000 0x00001000 0x40000000 0x20000000 0x10000000",
         },
         Map {
             areas: &[
-                area(b"a", Some(0x0), 0x1000),
-                area(b"b", None, 0x1000),
-                area(b"c", None, 0x40000000),
-                area(b"d", None, 0x20000000),
-                area(b"e", None, 0x10000000),
-                area(b"f", None, 0x40000000),
+                area_at(b"a", Some(0x0), 0x1000),
+                area_at(b"b", None, 0x1000),
+                area_at(b"c", None, 0x40000000),
+                area_at(b"d", None, 0x20000000),
+                area_at(b"e", None, 0x10000000),
+                area_at(b"f", None, 0x40000000),
             ],
             cached: true,
             wanted: b"t:6: RegionExhausted cached 0x40000000 1 2\n",
         },
         Map {
             areas: &[
-                area(b"a", Some(0x40000000), 0x1000),
-                area(b"b", None, 0x1000),
-                area(b"c", None, 0x40000000),
+                area_at(b"a", Some(0x40000000), 0x1000),
+                area_at(b"b", None, 0x1000),
+                area_at(b"c", None, 0x40000000),
             ],
             cached: true,
             wanted: b" 0x40000000 0x40001000 0x00000000",
         },
         Map {
-            areas: &[area(b"a", Some(0xfffff800), 0x1800)],
+            areas: &[area_at(b"a", Some(0xfffff800), 0x1800)],
             cached: false,
             wanted: b"t:1: RegionRange a\n",
         },
         Map {
-            areas: &[area(b"a", Some(0xffffffffffffffff), 0x4)],
+            areas: &[area_at(b"a", Some(0xffffffffffffffff), 0x4)],
             cached: false,
             wanted: b"t:1: RegionRange a\n",
         },
         Map {
-            areas: &[area(b"a", Some(0x80000000), 0x1000)],
+            areas: &[area_at(b"a", Some(0x80000000), 0x1000)],
             cached: true,
             wanted: b"t:1: WrongWindow a\n",
         },
         Map {
-            areas: &[area(b"a", None, 0x100000000)],
+            areas: &[area_at(b"a", None, 0x100000000)],
             cached: false,
             wanted: b"t:1: RegionExhausted uncached 0x100000000 0 1\n",
         },
         Map {
-            areas: &[area(b"a", Some(0x0), 0x100000000)],
+            areas: &[area_at(b"a", Some(0x0), 0x100000000)],
             cached: true,
             wanted: b"t:1: WrongWindow a\n",
         },
         Map {
-            areas: &[area(b"a", None, 0x1), area(b"b", None, 0x5)],
+            areas: &[area_at(b"a", None, 0x1), area_at(b"b", None, 0x5)],
             cached: false,
             wanted: b" 0x80000008 0x80000000",
         },
@@ -253,7 +253,11 @@ fn check_numbers(rt: &impl Abort, alloc: Global, numbers: &Numbers) -> Result<()
         fixes: fixes_of(alloc, numbers.fixes)?,
         managers: names_of(
             alloc,
-            &[stated(b"p", None), stated(b"q", None), stated(b"r", None)],
+            &[
+                stated_for(b"p", None),
+                stated_for(b"q", None),
+                stated_for(b"r", None),
+            ],
         )?,
         irqs: fixes_of(alloc, numbers.irqs)?,
     };
@@ -267,31 +271,31 @@ fn gives_numbers(rt: HostRuntime) -> Result<(), Fail> {
     let rows = [
         Numbers {
             irqs: &[
-                stated(b"p", None),
-                stated(b"q", Some(0)),
-                stated(b"r", None),
+                stated_for(b"p", None),
+                stated_for(b"q", Some(0)),
+                stated_for(b"r", None),
             ],
-            fixes: &[stated(b"y", Some(0))],
+            fixes: &[stated_for(b"y", Some(0))],
             banks: &[words_of(b"x", 1), words_of(b"y", 512)],
             wanted: b" bank 1 bank 0 irq 1 irq 0 irq 2",
         },
         Numbers {
-            irqs: &[stated(b"p", None), stated(b"s", None)],
+            irqs: &[stated_for(b"p", None), stated_for(b"s", None)],
             fixes: &[],
             banks: &[],
             wanted: b"t:2: UnknownEvent s\n",
         },
         Numbers {
-            irqs: &[stated(b"p", None), stated(b"q", Some(32))],
+            irqs: &[stated_for(b"p", None), stated_for(b"q", Some(32))],
             fixes: &[],
             banks: &[],
             wanted: b"t:2: IrqRange q 32\n",
         },
         Numbers {
             irqs: &[
-                stated(b"p", Some(7)),
-                stated(b"q", None),
-                stated(b"r", Some(7)),
+                stated_for(b"p", Some(7)),
+                stated_for(b"q", None),
+                stated_for(b"r", Some(7)),
             ],
             fixes: &[],
             banks: &[],
@@ -299,19 +303,19 @@ fn gives_numbers(rt: HostRuntime) -> Result<(), Fail> {
         },
         Numbers {
             irqs: &[],
-            fixes: &[stated(b"z", Some(0))],
+            fixes: &[stated_for(b"z", Some(0))],
             banks: &[words_of(b"x", 1)],
             wanted: b"t:1: UnknownBank z\n",
         },
         Numbers {
             irqs: &[],
-            fixes: &[stated(b"x", Some(32))],
+            fixes: &[stated_for(b"x", Some(32))],
             banks: &[words_of(b"x", 1)],
             wanted: b"t:1: BankRange x 32\n",
         },
         Numbers {
             irqs: &[],
-            fixes: &[stated(b"x", Some(3)), stated(b"y", Some(3))],
+            fixes: &[stated_for(b"x", Some(3)), stated_for(b"y", Some(3))],
             banks: &[words_of(b"x", 1), words_of(b"y", 1)],
             wanted: b"t:2: BankTaken 3 x y\n",
         },
