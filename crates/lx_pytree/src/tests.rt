@@ -3,7 +3,7 @@
 
 use crate::read;
 use crate::tree::{PyPart, Tree};
-use lx_text::{Kind, List, NoMemory, Refusal, Text};
+use lx_text::{Fault, Kind, List, NoMemory, Refusal, Text};
 use lx_token::tokens::tokens;
 use lx_token::{Token, TokenKind};
 use std::alloc::Global;
@@ -107,14 +107,24 @@ fn answered(alloc: Global, text: &str) -> Result<Answer, NoMemory> {
 }
 
 fn answered_by(alloc: Global, text: &str, tokens: &List<Token>) -> Result<Answer, NoMemory> {
-    Ok(match read(alloc, text.as_bytes(), tokens) {
-        Ok(_) => Answer::Tree,
-        Err(Refusal::Fault(fault)) => match fault.kind {
-            Kind::Syntax(number) => Answer::Syntax(number, fault.line),
-            _ => Answer::Other,
-        },
-        Err(Refusal::NoMemory) => Answer::Other,
-    })
+    match read(alloc, text.as_bytes(), tokens) {
+        Ok(_tree) => Ok(Answer::Tree),
+        Err(refusal) => Ok(told(&refusal)),
+    }
+}
+
+fn told(refusal: &Refusal) -> Answer {
+    match refusal {
+        Refusal::Fault(fault) => told_fault(fault),
+        Refusal::NoMemory => Answer::Other,
+    }
+}
+
+fn told_fault(fault: &Fault) -> Answer {
+    match &fault.kind {
+        Kind::Syntax(number) => Answer::Syntax(*number, fault.line),
+        _ => Answer::Other,
+    }
 }
 
 #[test]
