@@ -4,3 +4,4 @@ pub mod ByLines
 pub mod Cuts
 pub mod Within
 pub mod Rising
+pub mod Slicing

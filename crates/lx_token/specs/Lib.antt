@@ -8,3 +8,4 @@ pub mod Lines
 pub mod Tokens
 pub mod Machine
 pub mod Order
+pub mod Slices
