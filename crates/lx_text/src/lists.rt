@@ -1,6 +1,6 @@
 //! Lists and words over vectors: a contract sees them as the list of their items.
 
-ghost use Rattle.std.specs.Prelude.{◌≡◌, ◌++◌, ◌∷◌, [], ◌<◌, length, take, slice_get, Some, IfOk, OnOk, OnErr, IsTrue, ◌↔◌, option_copied, option_to_list};
+ghost use Rattle.std.specs.Prelude.{◌≡◌, ◌++◌, ◌∷◌, [], ◌<◌, length, take, slice_get, Some, IfOk, OnOk, OnErr, IsTrue, ◌↔◌, option_copied};
 
 use std::alloc::{AllocError, AllocFailed, Global};
 use std::marker::Model;
@@ -85,13 +85,6 @@ impl<T: Drop> List<T> {
     {
         self.items.push(item)?;
         Ok(())
-    }
-
-    /// Takes the last item away.
-    pub fn pop(&mut self) -> Option<T>
-        ensures { self.old ≡ self.new ++ option_to_list result }
-    {
-        self.items.pop()
     }
 
     /// The items.

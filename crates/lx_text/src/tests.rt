@@ -90,8 +90,8 @@ fn lists(rt: HostRuntime) -> Result<(), Fail> {
     let mut list = List::new(rt.alloc());
     list.push(7u8)?;
     list.push(9u8)?;
-    assert_eq!(rt; list.pop(), Some(9));
-    assert_eq!(rt; list.as_slice(), [7u8].as_slice());
+    assert_eq!(rt; list.as_slice(), [7u8, 9].as_slice());
+    assert_eq!(rt; *list.at(1), 9);
     let named = Word::new(rt.alloc(), b"ab")?;
     assert_eq!(rt; named.copied(rt.alloc())?.as_bytes(), b"ab".as_slice());
     Ok(())
