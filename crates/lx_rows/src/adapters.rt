@@ -1,9 +1,55 @@
 //! The adapters over real files, in a folder of their own.
 
 use lx_outside::{Console, LoadFault, Sink, Source};
+use lx_text::List;
 use lx_top::{FileSink, FileSource, StdConsole};
 use std::fs;
 use std::test::Fail as TestFail;
+
+type Loaded = Result<List<u8>, LoadFault>;
+
+// These are the bytes that a load gave.
+fn gives(answer: Loaded, want: &[u8]) -> bool {
+    match answer {
+        Ok(bytes) => bytes.as_slice() == want,
+        Err(_fault) => false,
+    }
+}
+
+// The file was too long, and this is its front.
+fn is_too_long(answer: Loaded, want: &[u8]) -> bool {
+    match answer {
+        Ok(_bytes) => false,
+        Err(fault) => match fault {
+            LoadFault::TooLong(front) => front.as_slice() == want,
+            LoadFault::NoFile | LoadFault::Failed | LoadFault::NoMemory => false,
+        },
+    }
+}
+
+// There was no such file.
+fn is_missing(answer: Loaded) -> bool {
+    match answer {
+        Ok(_bytes) => false,
+        Err(fault) => match fault {
+            LoadFault::NoFile => true,
+            LoadFault::TooLong(_front) => false,
+            LoadFault::Failed | LoadFault::NoMemory => false,
+        },
+    }
+}
+
+// Reading failed.
+fn is_failure(answer: Loaded) -> bool {
+    match answer {
+        Ok(_bytes) => false,
+        Err(fault) => match fault {
+            LoadFault::Failed => true,
+            LoadFault::TooLong(_front) => false,
+            LoadFault::NoFile | LoadFault::NoMemory => false,
+        },
+    }
+}
 
 #[test]
 fn files_are_read_back(rt: HostRuntime) -> Result<(), TestFail> {
@@ -14,27 +60,11 @@ fn files_are_read_back(rt: HostRuntime) -> Result<(), TestFail> {
     assert!(rt; out.store(b"lx_rows_files/a", b"module").is_ok());
     assert!(rt; out.store(b"lx_rows_files/none/a", b"module").is_err());
     assert!(rt; out.store(b"lx_rows_files/\xff", b"module").is_err());
-    match src.load(alloc, b"lx_rows_files/a", 6) {
-        Ok(bytes) => assert_eq!(rt; bytes.as_slice(), b"module".as_slice()),
-        Err(_) => assert!(rt; false),
-    }
-    match src.load(alloc, b"lx_rows_files/a", 3) {
-        Err(LoadFault::TooLong(front)) => assert_eq!(rt; front.as_slice(), b"modu".as_slice()),
-        _ => assert!(rt; false),
-    }
-    assert!(rt;
-        matches!(
-            src.load(alloc, b"lx_rows_files/b", 6),
-            Err(LoadFault::NoFile)
-        )
-    );
-    assert!(rt; matches!(src.load(alloc, b"lx_rows_files", 6), Err(LoadFault::Failed)));
-    assert!(rt;
-        matches!(
-            src.load(alloc, b"lx_rows_files/\xff", 6),
-            Err(LoadFault::Failed)
-        )
-    );
+    assert!(rt; gives(src.load(alloc, b"lx_rows_files/a", 6), b"module"));
+    assert!(rt; is_too_long(src.load(alloc, b"lx_rows_files/a", 3), b"modu"));
+    assert!(rt; is_missing(src.load(alloc, b"lx_rows_files/b", 6)));
+    assert!(rt; is_failure(src.load(alloc, b"lx_rows_files", 6)));
+    assert!(rt; is_failure(src.load(alloc, b"lx_rows_files/\xff", 6)));
     let mut con = StdConsole::new(rt.stdout());
     assert!(rt; con.say(b"").is_ok());
     fs::remove_file(&rt, "lx_rows_files/a")?;

@@ -44,6 +44,7 @@ fn texts_are_judged(rt: HostRuntime) -> Result<(), Fail> {
         (b"class A(Module):\n    x\n  y\n", b"f.py:3: BadIndent\n"),
         (brackets.as_slice(), b"f.py:1: TooDeep 64\n"),
         (number, b"f.py:1: NumberRange\n"),
+        (b"class A(Module", b"f.py:1: Syntax 4\n"),
         (b"", b"f.py:0: NoTop\n"),
         (
             b"# no class\nfrom migen import *\n'text'\n",

@@ -416,7 +416,6 @@ fn prints_each_form(rt: HostRuntime) -> Result<(), Fail> {
 }
 
 // The module without parts.
-#[tactic(auto, using(lx_vtree::proofs::Placed::bare_has_text))]
 fn bare(alloc: Global) -> Module {
     Module::new(Parts {
         exprs: Arena::new(alloc),
