@@ -326,6 +326,58 @@ mod tests {
         };
     }
 
+    // an operator at the least and greatest operands of four bits: both signed, both unsigned, and one of each
+    macro_rules! extremes {
+        ($rt:ident, $op:ident, $a:literal $b:literal $c:literal $d:literal $e:literal $f:literal) => {
+            assert_eq!($rt; value!($op, 4 true -8, 4 true 7), $a);
+            assert_eq!($rt; value!($op, 4 true 7, 4 true -8), $b);
+            assert_eq!($rt; value!($op, 4 false 0, 4 false 15), $c);
+            assert_eq!($rt; value!($op, 4 false 15, 4 false 0), $d);
+            assert_eq!($rt; value!($op, 4 true -8, 4 false 15), $e);
+            assert_eq!($rt; value!($op, 4 false 15, 4 true -8), $f);
+        };
+    }
+
+    #[test]
+    fn sums_at_extremes(rt: HostRuntime) {
+        extremes!(rt, Add, -1 -1 15 15 7 7);
+        extremes!(rt, Sub, -15 15 -15 15 -23 23);
+        extremes!(rt, Mul, -56 -56 0 0 -120 -120);
+    }
+
+    #[test]
+    fn bits_at_extremes(rt: HostRuntime) {
+        extremes!(rt, And, 0 0 0 0 8 8);
+        extremes!(rt, Or, -1 -1 15 15 -1 -1);
+        extremes!(rt, Xor, -1 -1 15 15 -9 -9);
+    }
+
+    #[test]
+    fn comparisons_at_extremes(rt: HostRuntime) {
+        extremes!(rt, Eq, 0 0 0 0 0 0);
+        extremes!(rt, Ne, 1 1 1 1 1 1);
+        extremes!(rt, Lt, 1 0 1 0 1 0);
+        extremes!(rt, Le, 1 0 1 0 1 0);
+        extremes!(rt, Gt, 0 1 0 1 0 1);
+        extremes!(rt, Ge, 0 1 0 1 0 1);
+    }
+
+    #[test]
+    fn shifts_and_signs_at_extremes(rt: HostRuntime) {
+        assert_eq!(rt; value!(Shl, 4 true -8, 4 false 15), -262144);
+        assert_eq!(rt; value!(Shl, 4 true 7, 4 false 15), 229376);
+        assert_eq!(rt; value!(Shl, 4 false 15, 4 false 15), 491520);
+        assert_eq!(rt; value!(Shr, 4 true -8, 4 false 15), -1);
+        assert_eq!(rt; value!(Shr, 4 true 7, 4 false 15), 0);
+        assert_eq!(rt; value!(Shr, 4 false 15, 4 false 0), 15);
+        assert_eq!(rt; unary(Op::Neg, shape!(4 true), -8), 8);
+        assert_eq!(rt; unary(Op::Neg, shape!(4 false), 15), -15);
+        assert_eq!(rt; unary(Op::Not, shape!(4 true), -8), 7);
+        assert_eq!(rt; unary(Op::Not, shape!(4 true), 7), -8);
+        assert_eq!(rt; unary(Op::Not, shape!(4 false), 0), 15);
+        assert_eq!(rt; unary(Op::Not, shape!(4 false), 15), 0);
+    }
+
     #[test]
     fn sums_and_products(rt: HostRuntime) {
         assert_eq!(rt; value!(Add, 4 false 15, 4 false 15), 30);

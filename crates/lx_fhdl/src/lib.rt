@@ -8,6 +8,8 @@ pub mod exprs;
 pub mod laws;
 pub mod places;
 pub mod steps;
+#[cfg(test)]
+mod tests;
 
 pub use design::{Arm, Branch, Design, Domain, Signal, Stmt, SyncPart, Target};
 pub use eval::{eval_into, eval_node};
