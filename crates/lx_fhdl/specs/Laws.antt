@@ -1,13 +1,23 @@
 -- The nodes of an arena mean what their trees mean.
 use Rattle.std.specs.Prelude.{◌≡◌, ℕ, ℤ, List, Option, Some, None, ◌<◌, length, slice_get}
 use Rattle.lx_num.specs.declared.Shape.{Shape}
+use Rattle.lx_num.specs.Ints.{Fits}
 use Rattle.lx_arena.specs.Lower.{EachLower}
 use Rattle.lx_circuit.specs.declared.WidthFault.{WidthFault}
 use Rattle.lx_circuit.specs.Shapes.{Shapes, shape_of, fault_of}
-use Rattle.lx_circuit.specs.Values.{value_of}
-use Rattle.lx_fhdl.specs.Below.{expr_below}
-use Rattle.lx_fhdl.specs.Nodes.{IsShaped, IsValued, shape_at, value_at}
+use Rattle.lx_circuit.specs.Values.{Values, value_of}
+use Rattle.lx_circuit.specs.Circuit.{Step, StepsFit, InputsFit, IsView}
+use Rattle.lx_circuit.specs.Terms.{Term}
+use Rattle.lx_circuit.specs.Statements as tree
+use Rattle.lx_fhdl.specs.Below.{expr_below, target_below, stmt_below}
+use Rattle.lx_fhdl.specs.Designs as design
+use Rattle.lx_fhdl.specs.Keeping.{Keeps}
+use Rattle.lx_fhdl.specs.Nodes.{IsSmall, IsShaped, IsValued, shape_at, value_at}
+use Rattle.lx_fhdl.specs.Stmts.{node_target, target_at, node_stmt, stmt_at}
 use Rattle.lx_fhdl.specs.Trees.{node_term, term_at}
+use Rattle.lx_fhdl.specs.declared.design.Design.{Design}
+use Rattle.lx_fhdl.specs.declared.stmts.Target.{Target}
+use Rattle.lx_fhdl.specs.declared.stmts.Stmt.{Stmt}
 use Rattle.lx_fhdl.specs.declared.exprs.Expr.{Expr}
 use Rattle.lx_fhdl.specs.declared.exprs.Expr.TheVariants.{Sig}
 
@@ -35,3 +45,23 @@ ValuesStand =
     → EachLower expr_below xs → IsShaped xs hs vals → GivesShapes s xs hs
     → ((k : ℕ) → k < length xs → IsValued xs hs vals known k)
     → (k : ℕ) → k < length xs → MeansTree s xs hs vals known k
+
+-- the target and the statement at a place are made of those of their nodes' parts
+abbrev pub TargetsStand : Type 0
+TargetsStand = (t : ℕ → Term) (xs : List Target) → EachLower target_below xs → (k : ℕ) (x : Target) → slice_get xs k ≡ Some x → target_at t xs k ≡ node_target t (target_at t xs) x
+
+abbrev pub StmtsStand : Type 0
+StmtsStand = (t : ℕ → Term) (g : ℕ → tree.Target) (xs : List Stmt) → EachLower stmt_below xs → (k : ℕ) (x : Stmt) → slice_get xs k ≡ Some x → stmt_at t g xs k ≡ node_stmt t g (stmt_at t g xs) x
+
+-- every expression has 1 to 127 bits, and its value and every signal's fit their shapes
+pub record AllFit (d : Design) (v : Values) : Type 0 where
+  pub signals : (x : ℕ) → Fits (design.shapes d x) (v x)
+  pub small : (k : ℕ) → k < length d.exprs → IsSmall (shape_of (design.shapes d) (design.term d k))
+  pub exprs : (k : ℕ) → k < length d.exprs → Fits (shape_of (design.shapes d) (design.term d k)) (value_of (design.shapes d) v (design.term d k))
+
+-- In each view of a design all values fit.
+abbrev pub DesignsFit : Type 0
+DesignsFit =
+    (d : Design) → Keeps d → (steps : List Step) (inputs : Values)
+    → StepsFit (design.circuit_of d) steps → InputsFit (design.circuit_of d) inputs
+    → (v : Values) → IsView (design.circuit_of d) steps inputs v → AllFit d v

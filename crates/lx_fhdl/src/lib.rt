@@ -8,11 +8,13 @@ pub mod exprs;
 pub mod laws;
 pub mod places;
 pub mod steps;
+pub mod stmts;
 #[cfg(test)]
 mod tests;
 
-pub use design::{Arm, Branch, Design, Domain, Signal, Stmt, SyncPart, Target};
+pub use design::{Design, Domain, Signal, SyncPart};
 pub use eval::{eval_into, eval_node};
 pub use exprs::{Expr, ExprId, Exprs, InExprs, SigId};
 pub use places::{BankWish, Fix, Numbered, Placement, Region, RegionWish, Wishes};
 pub use steps::Steps;
+pub use stmts::{Arm, Branch, InStmts, InTargets, Stmt, StmtId, Stmts, Target, TargetId, Targets};
