@@ -1,0 +1,48 @@
+-- What the module of a lowered design is.
+use Rattle.std.specs.Prelude.{◌≡◌, ℕ, Bool, true, false, not, ◌&&◌, List, [], ◌∷◌, map, IsTrue}
+use Rattle.lx_circuit.specs.Circuit as circuit
+use Rattle.lx_circuit.specs.Reads.{HasOrder}
+use Rattle.lx_vtext.specs.Tree.{Name, VModule}
+use Rattle.lx_vtext.specs.Fits.{IsModule}
+use Rattle.lx_vmeaning.specs.Cycle.{HasCycleMeaning}
+use Rattle.lx_agree.specs.Agreement.{Agrees, HasPorts}
+use Rattle.lx_fhdl.specs.Designs.{circuit_of, signal_number}
+use Rattle.lx_fhdl.specs.Keeping.{Keeps}
+use Rattle.lx_fhdl.specs.Lowered.{IsLowered}
+use Rattle.lx_fhdl.specs.declared.design.Design.{Design}
+use Rattle.lx_emission.specs.Naming.{NamesFit, naming}
+use Rattle.lx_emission.specs.Emission.{decls_of, emitted}
+
+abbrev pub are_once : List ℕ → Bool
+are_once [] = true
+are_once (x ∷ xs) = not (circuit.is_among x xs) && are_once xs
+
+abbrev pub none_is_reset : List ℕ → List circuit.Domain → Bool
+none_is_reset [] ds = true
+none_is_reset (x ∷ xs) ds = not (circuit.is_some_reset x ds) && none_is_reset xs ds
+
+-- each port once, and no domain's reset among them
+pub record PortsFit (d : Design) : Type 0 where
+  pub once : IsTrue (are_once (circuit_of d).ios)
+  pub resets : IsTrue (none_is_reset (circuit_of d).ios (circuit_of d).domains)
+
+-- A lowered design that can be written: its reads have an order, and its nets have names.
+pub record CanBeEmitted (d : Design) (names : List Name) : Type 0 where
+  pub keeps : Keeps d
+  pub lowered : IsLowered d
+  pub order : HasOrder (circuit_of d)
+  pub named : NamesFit d names
+  pub ports : PortsFit d
+
+-- The module has a text and a cycle meaning, so no expression has more than 128 bits in its context; it has the design's ports,
+-- a net for each signal and one for each operator and slice in order, and after every list of steps each signal has the number of its net.
+pub record Emits (d : Design) (names : List Name) (m : VModule) : Type 0 where
+  pub lawful : IsModule m
+  pub meaning : HasCycleMeaning m
+  pub ports : HasPorts (circuit_of d) (naming d names) m
+  pub nets : m.decls ≡ decls_of d names
+  pub agrees : Agrees (circuit_of d) m (naming d names)
+
+-- The module of each lowered design does so.
+abbrev pub IsEmissionLaw : Type 0
+IsEmissionLaw = (d : Design) (names : List Name) → CanBeEmitted d names → Emits d names (emitted d names)

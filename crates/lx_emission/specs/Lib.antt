@@ -1,0 +1,6 @@
+pub mod Emission
+pub mod Emits
+pub mod Naming
+pub mod Nodes
+pub mod Signals
+pub mod Texts
