@@ -1,4 +1,5 @@
 pub mod Circuit
+pub mod Operands
 pub mod Reads
 pub mod Settling
 pub mod Shapes

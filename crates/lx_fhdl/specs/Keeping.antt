@@ -5,6 +5,7 @@ use Rattle.std.specs.Str.{bytes_eq}
 use Rattle.lx_num.specs.Ints.{Fits}
 use Rattle.lx_tables.specs.PythonWords.{is_python_word}
 use Rattle.lx_arena.specs.Lower.{EachLower}
+use Rattle.lx_circuit.specs.Operands.{is_unary, is_binary}
 use Rattle.lx_circuit.specs.Shapes.{shape_of, fault_of}
 use Rattle.lx_circuit.specs.Statements as tree
 use Rattle.lx_fhdl.specs.Below.{ExprId, TargetId, StmtId, expr_below, target_below, stmt_below, all_stmts_below}
@@ -13,7 +14,7 @@ use Rattle.lx_fhdl.specs.Designs as design
 use Rattle.lx_fhdl.specs.Designs.{shapes}
 use Rattle.lx_fhdl.specs.declared.exprs.SigId.{SigId}
 use Rattle.lx_fhdl.specs.declared.exprs.Expr.{Expr}
-use Rattle.lx_fhdl.specs.declared.exprs.Expr.TheVariants.{Sig}
+use Rattle.lx_fhdl.specs.declared.exprs.Expr.TheVariants.{Sig, Unary, Binary}
 use Rattle.lx_fhdl.specs.declared.stmts.Target.{Target}
 use Rattle.lx_fhdl.specs.declared.stmts.Target.TheVariants as target
 use Rattle.lx_fhdl.specs.declared.stmts.Branch.{Branch}
@@ -55,6 +56,12 @@ is_distinct (n ∷ ns) = not (list_any (bytes_eq n) ns) && is_distinct ns
 abbrev pub NamesBelow : ℕ → Expr → Type 0
 NamesBelow n (Sig x) = x.0 < n
 NamesBelow n _ = Unit {0}
+
+-- an operator stands with the number of operands that it takes
+abbrev pub TakesOperands : Expr → Type 0
+TakesOperands (Unary op of) = is_unary op ≡ true
+TakesOperands (Binary op left right) = is_binary op ≡ true
+TakesOperands _ = Unit {0}
 
 -- ---- signals
 
@@ -153,6 +160,7 @@ pub record Keeps (d : Design) : Type 0 where
   pub stmts_lower : EachLower stmt_below d.stmts
   -- every expression has a shape without a fault, and names only signals of the design
   pub shaped : (k : ℕ) → k < length d.exprs → fault_of (shapes d) (design.term d k) ≡ None
+  pub operands : (k : ℕ) (x : Expr) → slice_get d.exprs k ≡ Some x → TakesOperands x
   pub parts : (k : ℕ) (x : Expr) → slice_get d.exprs k ≡ Some x → HasParts x
   pub named : (k : ℕ) (x : Expr) → slice_get d.exprs k ≡ Some x → NamesBelow (length d.signals) x
   pub signals : EachOf IsSignal d.signals

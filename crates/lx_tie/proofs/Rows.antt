@@ -13,7 +13,8 @@ use Rattle.lx_circuit.specs.Shapes.{extra, joined_bits, joined, unary_shape, bin
 use Rattle.lx_circuit.specs.Values.{unary_value, binary_value, mux_value, flag, count_of}
 use Rattle.lx_vmeaning.specs.Meaning.{Valuation, Meaning, compare, less, less_equal, greater, greater_equal, equal, not_equal, negated, inverted, binary}
 use Rattle.lx_tie.specs.Stands.{Exact, Drives, Spreads}
-use Rattle.lx_tie.specs.Rows.{widened, wide_if, binary_op, built_unary, built_binary, built_choice, is_unary, is_binary, TakesRight}
+use Rattle.lx_tie.specs.Rows.{widened, wide_if, binary_op, built_unary, built_binary, built_choice, TakesRight}
+use Rattle.lx_circuit.specs.Operands.{is_unary, is_binary}
 use Rattle.lx_tie.proofs.Leaves.{spreads_drives, exact_spreads, exact_widened}
 use Rattle.lx_tie.proofs.Texts.{spreads_plus, spreads_minus, spreads_times, spreads_and, spreads_or, spreads_xor, spreads_negated, spreads_inverted, drives_inverted, spreads_left_shift, spreads_right_shift, exact_compare, spreads_choose}
 use Rattle.lx_tie.proofs.Parts.{spreads_arithmetic_right}

@@ -11,6 +11,7 @@ use Rattle.lx_vtext.specs.declared.operators.UnOp.{UnOp}
 use Rattle.lx_vtext.specs.declared.operators.UnOp.TheVariants.{Negate, Invert}
 use Rattle.lx_vtext.specs.declared.operators.BinOp.{BinOp}
 use Rattle.lx_vtext.specs.declared.operators.BinOp.TheVariants as op
+use Rattle.lx_circuit.specs.Operands.{is_unary, is_binary}
 use Rattle.lx_circuit.specs.Shapes.{unary_shape, binary_shape, joined}
 use Rattle.lx_circuit.specs.Values.{unary_value, binary_value, mux_value}
 use Rattle.lx_vmeaning.specs.Meaning.{Valuation, Meaning, unary, binary, choose, as_signed, concat, literal}
@@ -56,19 +57,6 @@ built_binary r a b = binary (binary_op r.text) (wide_if r.widen_left a) (wide_if
 
 abbrev pub built_choice : OpRow → Meaning → Meaning → Meaning → Meaning
 built_choice r c a b = choose c (wide_if r.widen_left a) (wide_if r.widen_right b)
-
-abbrev pub is_unary : Op → Bool
-is_unary Neg = true
-is_unary Not = true
-is_unary _ = false
-
-abbrev pub is_binary : Op → Bool
-is_binary Neg = false
-is_binary Not = false
-is_binary Mux = false
-is_binary Cat = false
-is_binary Replicate = false
-is_binary _ = true
 
 -- an amount is unsigned
 abbrev pub TakesRight : Op → Bool → Type 0
