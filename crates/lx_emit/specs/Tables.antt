@@ -1,0 +1,27 @@
+-- What is counted once for all nodes of a design, and trees that are put into an arena.
+use Rattle.std.specs.Prelude.{◌≡◌, ℕ, ◌<◌, List, length, slice_index_or}
+use Rattle.lx_num.specs.declared.Shape.{Shape}
+use Rattle.lx_vtext.specs.Tree as tree
+use Rattle.lx_vtree.specs.declared.nodes.VExpr.{VExpr}
+use Rattle.lx_vtree.specs.Trees.{tree_at}
+use Rattle.lx_vtree.specs.Growth.{Grows}
+use Rattle.lx_fhdl.specs.Nodes.{shape_at}
+use Rattle.lx_fhdl.specs.declared.design.Design.{Design}
+use Rattle.lx_emission.specs.Naming.{nets_before}
+use Rattle.lx_emission.specs.Nodes.{node_shape}
+
+-- the shapes of all nodes
+pub record AreShapes (d : Design) (shapes : List Shape) : Type 0 where
+  pub long : length shapes ≡ length d.exprs
+  pub each : (k : ℕ) → k < length d.exprs → shape_at shapes k ≡ node_shape d k
+
+-- the numbers of all nodes' nets: how many nodes before a node have nets
+pub record AreNumbers (d : Design) (numbers : List ℕ) : Type 0 where
+  pub long : length numbers ≡ length d.exprs
+  pub each : (k : ℕ) → k < length d.exprs → slice_index_or numbers k 0 ≡ nets_before d.exprs k
+
+-- a tree more hangs in the arena, and those that hung there stay
+pub record Put (old new : List VExpr) (id : ℕ) (t : tree.VExpr) : Type 0 where
+  pub grows : Grows old new
+  pub within : id < length new
+  pub tree : tree_at new id ≡ t

@@ -1,0 +1,4 @@
+//! The Verilog module of a lowered design, in arenas.
+#![tactic(auto)]
+
+pub mod tables;

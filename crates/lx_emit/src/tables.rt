@@ -1,0 +1,1 @@
+//! What is counted once for all nodes of a design.
