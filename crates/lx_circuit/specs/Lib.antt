@@ -5,3 +5,4 @@ pub mod Shapes
 pub mod Statements
 pub mod Terms
 pub mod Values
+pub mod Worked
