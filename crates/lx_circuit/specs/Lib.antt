@@ -6,3 +6,4 @@ pub mod Shapes
 pub mod Statements
 pub mod Terms
 pub mod Values
+pub mod Worked

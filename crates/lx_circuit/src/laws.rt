@@ -1,6 +1,7 @@
-//! The laws of settling and of views, over all circuits.
+//! The laws of settling and of views, over all circuits; and values worked by hand.
 
 ghost use Rattle.lx_circuit.specs.Settling.{IsSettlingLaw, IsViewLaw};
+ghost use Rattle.lx_circuit.specs.Worked.{AreWorked};
 
 /// A circuit in which an order of reads exists has exactly one settled valuation, under each state and
 /// all inputs.
@@ -11,4 +12,9 @@ pub fn settling_law()
 /// A circuit in which an order of reads exists has exactly one view after every list of steps.
 pub fn view_law()
     ensures { IsViewLaw }
+{}
+
+/// Values, shapes, faults and assignments are those worked by hand.
+pub fn circuits_are_worked()
+    ensures { AreWorked }
 {}

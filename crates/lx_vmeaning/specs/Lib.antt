@@ -2,3 +2,4 @@ pub mod Cycle
 pub mod Meaning
 pub mod Runs
 pub mod Settling
+pub mod Worked
