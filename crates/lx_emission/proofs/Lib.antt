@@ -1,1 +1,3 @@
 pub mod Setting
+pub mod Pieces
+pub mod Runs
