@@ -1,3 +1,5 @@
 pub mod Drives
 pub mod Operands
 pub mod Setting
+pub mod Pieces
+pub mod Runs
