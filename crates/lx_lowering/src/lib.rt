@@ -1,0 +1,9 @@
+//! Lowering of circuits: one list of flat statements for each signal, with the same runs.
+#![tactic(auto)]
+
+ghost use Rattle.lx_lowering.specs.Lowering.{IsLoweringLaw};
+
+/// The lowered circuit has the same runs, plain statements, and an order of its reads where there was one.
+pub fn lowering_law()
+    ensures { IsLoweringLaw }
+{}
