@@ -1,1 +1,4 @@
 pub mod Setting
+pub mod Reading
+pub mod Fitting
+pub mod Lawful
