@@ -1,1 +1,4 @@
 pub mod Setting
+pub mod Blocks
+pub mod BlockReads
+pub mod BlockLawful
