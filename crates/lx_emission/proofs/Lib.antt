@@ -6,3 +6,6 @@ pub mod Pieces
 pub mod Reading
 pub mod Runs
 pub mod Setting
+pub mod Blocks
+pub mod BlockReads
+pub mod BlockLawful
