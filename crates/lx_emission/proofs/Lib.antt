@@ -1,3 +1,6 @@
+pub mod BlockLawful
+pub mod BlockReads
+pub mod Blocks
 pub mod Drives
 pub mod Fitting
 pub mod Lawful
@@ -6,6 +9,3 @@ pub mod Pieces
 pub mod Reading
 pub mod Runs
 pub mod Setting
-pub mod Blocks
-pub mod BlockReads
-pub mod BlockLawful
