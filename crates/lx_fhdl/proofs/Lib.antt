@@ -5,4 +5,5 @@ pub mod Machine
 pub mod Meanings
 pub mod Operators
 pub mod Parts
+pub mod StmtTrees
 pub mod Trees
