@@ -1,4 +1,5 @@
 pub mod Arena
+pub mod Designs
 pub mod Fitting
 pub mod Frames
 pub mod Machine
@@ -7,3 +8,4 @@ pub mod Operators
 pub mod Parts
 pub mod StmtTrees
 pub mod Trees
+pub mod TreesFit

@@ -1,6 +1,6 @@
-//! Laws over all arenas.
+//! Laws over all arenas and all designs.
 
-ghost use Rattle.lx_fhdl.specs.Laws.{StmtsStand, TargetsStand, TreesStand, ValuesStand};
+ghost use Rattle.lx_fhdl.specs.Laws.{DesignsFit, StmtsStand, TargetsStand, TreesStand, ValuesStand};
 
 /// The tree at a place is made of the trees of its node's children.
 pub fn tree_law()
@@ -20,4 +20,10 @@ pub fn target_tree_law()
 /// The statement at a place is made of the statements inside its node.
 pub fn stmt_tree_law()
     ensures { StmtsStand }
+{}
+
+/// In every view of a design, after all steps and under all inputs that fit, the signals and the expressions have
+/// values of their shapes, and each expression has 1 to 127 bits.
+pub fn design_law()
+    ensures { DesignsFit }
 {}
