@@ -2,6 +2,7 @@
 use Rattle.std.proofs.Common.{◌≡◌, ℕ, ◌+◌, ◌<◌, ◌≤◌, ◌&&◌, true, false, List, [], ◌∷◌, length, refl, sym, ◌∙◌, ap, subst, arith, inl, inr, suc, zero, nat_lt}
 use Rattle.std.specs.Prelude.{ℤ, pos, Option, Some, None, map, slice_get, slice_index_or}
 use Rattle.std.proofs.lemmas.Bool.{cases_lt}
+use Rattle.std.proofs.lemmas.Option.{slice_get_within}
 use Rattle.lx_num.specs.declared.Shape.{Shape}
 use Rattle.lx_num.specs.Ints.{Fits}
 use Rattle.lx_arena.specs.Lower.{EachLower}
@@ -132,11 +133,15 @@ pub term_parts : (d : Design) → Keeps d → (k : ℕ) → k < length d.exprs �
 term_parts d p k h = parts_below d p (length d.exprs) (omega arith) k h
 
 -- the children of a node are there, and have no fault
-pub children_there : (d : Design) → Keeps d → (k : ℕ) (x : Expr) → slice_get d.exprs k ≡ Some x → k < length d.exprs → EachChild (λ j. j < length d.exprs) x
-children_there d p k x e h = children_of (λ j. j < length d.exprs) d.exprs p.exprs_lower k x e (λ j i. omega arith)
+pub children_there : (d : Design) → Keeps d → (k : ℕ) (x : Expr) → slice_get d.exprs k ≡ Some x → EachChild (λ j. j < length d.exprs) x
+children_there d p k x e =
+    let h = slice_get_within d.exprs k x e in
+    children_of (λ j. j < length d.exprs) d.exprs p.exprs_lower k x e (λ j i. omega arith)
 
-pub children_sound : (d : Design) → Keeps d → (k : ℕ) (x : Expr) → slice_get d.exprs k ≡ Some x → k < length d.exprs → EachChild (λ j. fault_of (shapes d) (design.term d j) ≡ None) x
-children_sound d p k x e h = children_of (λ j. fault_of (shapes d) (design.term d j) ≡ None) d.exprs p.exprs_lower k x e (λ j i. p.shaped j (omega arith))
+pub children_sound : (d : Design) → Keeps d → (k : ℕ) (x : Expr) → slice_get d.exprs k ≡ Some x → EachChild (λ j. fault_of (shapes d) (design.term d j) ≡ None) x
+children_sound d p k x e =
+    let h = slice_get_within d.exprs k x e in
+    children_of (λ j. fault_of (shapes d) (design.term d j) ≡ None) d.exprs p.exprs_lower k x e (λ j i. p.shaped j (omega arith))
 
 -- every expression has 1 to 127 bits
 pub term_small : (d : Design) → Keeps d → (k : ℕ) → k < length d.exprs → IsSmall (shape_of (shapes d) (design.term d k))

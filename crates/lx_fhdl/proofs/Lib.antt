@@ -2,6 +2,7 @@ pub mod Arena
 pub mod Designs
 pub mod Fitting
 pub mod Frames
+pub mod Instance
 pub mod Machine
 pub mod Meanings
 pub mod Operators

@@ -1,5 +1,7 @@
 //! Laws over all arenas and all designs.
 
+ghost use Rattle.lx_fhdl.specs.Instance.{instance};
+ghost use Rattle.lx_fhdl.specs.Keeping.{Keeps};
 ghost use Rattle.lx_fhdl.specs.Laws.{DesignsFit, StmtsStand, TargetsStand, TreesStand, ValuesStand};
 
 /// The tree at a place is made of the trees of its node's children.
@@ -26,4 +28,9 @@ pub fn stmt_tree_law()
 /// values of their shapes, and each expression has 1 to 127 bits.
 pub fn design_law()
     ensures { DesignsFit }
+{}
+
+/// A design with a clock domain, a reset, and statements of every kind keeps what `design_law` asks.
+pub fn some_design_law()
+    ensures { Keeps instance }
 {}
