@@ -78,9 +78,10 @@ no_child_fault s t (Binary op left right) e =
 no_child_fault s t (Mux cond so other) e =
     let own = too_wide (joined (shape_of s (t so.place)) (shape_of s (t other.place))).bits in
     let later = or_else (fault_of s (t other.place)) own in
-    let first = none_right (fault_of s (t cond.place)) (or_else (fault_of s (t so.place)) later) e in
-    (none_left (fault_of s (t cond.place)) (or_else (fault_of s (t so.place)) later) e,
-    (none_left (fault_of s (t so.place)) later first, none_left (fault_of s (t other.place)) own (none_right (fault_of s (t so.place)) later first)))
+    let first = none_right (fault_of s (t cond.place)) (or_else (fault_of s (t so.place)) later) e in (
+      none_left (fault_of s (t cond.place)) (or_else (fault_of s (t so.place)) later) e,
+      (none_left (fault_of s (t so.place)) later first, none_left (fault_of s (t other.place)) own (none_right (fault_of s (t so.place)) later first)),
+    )
 no_child_fault s t (Cat parts) e = no_faults_at s t parts (none_left (faults_of s (terms_at t parts)) (too_wide (bits_sum (shapes_of s (terms_at t parts)))) e)
 no_child_fault s t (Pick items index) e =
     let own = pick_fault (shapes_of s (terms_at t items)) (shape_of s (t index.place)) in

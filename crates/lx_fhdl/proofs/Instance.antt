@@ -77,11 +77,20 @@ signals : EachOf IsSignal instance_signals
 unfolding instance_signals python_words
 signals = (
   record { some = omega arith; most = omega arith; reset = fits_pos 1 0 (omega arith); path = refl },
-  (record { some = omega arith; most = omega arith; reset = fits_pos 2 1 (omega arith); path = refl },
-  (record { some = omega arith; most = omega arith; reset = fits_pos 1 0 (omega arith); path = refl },
-  (record { some = omega arith; most = omega arith; reset = fits_pos 1 0 (omega arith); path = refl },
-  (record { some = omega arith; most = omega arith; reset = fits_pos 3 0 (omega arith); path = refl },
-  tt)))))
+  (
+    record { some = omega arith; most = omega arith; reset = fits_pos 2 1 (omega arith); path = refl },
+    (
+      record { some = omega arith; most = omega arith; reset = fits_pos 1 0 (omega arith); path = refl },
+      (
+        record { some = omega arith; most = omega arith; reset = fits_pos 1 0 (omega arith); path = refl },
+        (
+          record { some = omega arith; most = omega arith; reset = fits_pos 3 0 (omega arith); path = refl },
+          tt,
+        ),
+      ),
+    ),
+  ),
+)
 
 targets : EachOf (TargetStands instance) instance_targets
 unfolding instance_exprs instance_targets instance_signals instance circuit_of term_at term_below
