@@ -1,7 +1,7 @@
 -- How a module follows a circuit, settled valuation by settled valuation: the premise of agreement.
 use Rattle.std.specs.Prelude.{◌≡◌, ℕ, Bool, ◌<◌, length}
 use Rattle.lx_circuit.specs.Values.{Values}
-use Rattle.lx_circuit.specs.Circuit.{Circuit, Role, Sync, role, IsSettled, InputsFit, StateFits, KeepsShapes, next_state, first_state}
+use Rattle.lx_circuit.specs.Circuit.{Circuit, Sync, role, IsSettled, InputsFit, StateFits, KeepsShapes, next_state, first_state}
 use Rattle.lx_circuit.specs.Reads.{HasOrder}
 use Rattle.lx_vtext.specs.Tree.{Name, VModule}
 use Rattle.lx_vmeaning.specs.Meaning.{Valuation}

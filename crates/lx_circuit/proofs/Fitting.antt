@@ -1,11 +1,11 @@
 -- The values of a circuit fit their shapes.
-use Rattle.std.proofs.Common.{◌≡◌, ℕ, ℤ, Bool, true, false, List, [], ◌∷◌, ◌<◌, ◌≤◌, ◌^◌, ◌%◌, ◌&&◌, cond, not, refl, sym, ◌∙◌, ap, subst, arith}
+use Rattle.std.proofs.Common.{◌≡◌, ℕ, ℤ, Bool, true, false, List, [], ◌∷◌, ◌^◌, ◌%◌, ◌&&◌, cond, not, refl, sym, subst}
 use Rattle.std.proofs.lemmas.Nat.{mod_below, pow_pos}
-use Rattle.lx_num.specs.Ints.{Fits, FitsBits, modulo, read_bits}
+use Rattle.lx_num.specs.Ints.{Fits, modulo}
 use Rattle.lx_num.proofs.Ranges.{FitsBits-read_bits}
 use Rattle.lx_circuit.specs.Values.{Values}
 use Rattle.lx_circuit.specs.Statements.{Piece, result, after_pieces, taken_block}
-use Rattle.lx_circuit.specs.Circuit.{Circuit, Domain, Role, Input, Comb, Sync, Undriven, role, by_role, made, shapes, is_reset, risen, next, next_state, first_state, domain_at, IsSettled, InputsFit, StateFits, StepsFit, KeepsShapes, Step, ViewFrom, IsView}
+use Rattle.lx_circuit.specs.Circuit.{Circuit, Role, Input, Comb, Sync, Undriven, role, by_role, made, shapes, is_reset, risen, next, next_state, first_state, domain_at, IsSettled, InputsFit, StateFits, StepsFit, KeepsShapes, Step, ViewFrom, IsView}
 
 pub result_fits : (c : Circuit) → KeepsShapes c → (x : ℕ) (start : ℤ) (ps : List Piece) → Fits (shapes c x) (result (shapes c) x start ps)
 result_fits c k x start ps =

@@ -1,13 +1,11 @@
 -- What follows from what a design keeps: shapes are small, and values fit.
-use Rattle.std.proofs.Common.{◌≡◌, ℕ, ◌+◌, ◌<◌, ◌≤◌, ◌&&◌, true, false, List, [], ◌∷◌, length, refl, sym, ◌∙◌, ap, subst, arith, inl, inr, suc, zero, nat_lt}
-use Rattle.std.specs.Prelude.{ℤ, pos, Option, Some, None, map, slice_get, slice_index_or}
+use Rattle.std.proofs.Common.{◌≡◌, ℕ, ◌<◌, ◌≤◌, false, List, [], ◌∷◌, length, sym, subst, arith, inl, inr, suc, zero}
+use Rattle.std.specs.Prelude.{Some, None, map, slice_get, slice_index_or}
 use Rattle.std.proofs.lemmas.Bool.{cases_lt}
 use Rattle.std.proofs.lemmas.Option.{slice_get_within}
-use Rattle.lx_num.specs.declared.Shape.{Shape}
 use Rattle.lx_num.specs.Ints.{Fits}
 use Rattle.lx_arena.specs.Lower.{EachLower}
-use Rattle.lx_circuit.specs.declared.WidthFault.{WidthFault}
-use Rattle.lx_circuit.specs.Terms.{Term, Terms}
+use Rattle.lx_circuit.specs.Terms.{Term}
 use Rattle.lx_circuit.specs.Shapes.{Shapes, shape_of, fault_of, faults_of, or_else, joined, bits_sum, shapes_of, unary_shape, too_wide, binary_fault, replicate_fault, slice_fault, pick_fault}
 use Rattle.lx_circuit.specs.Values.{Values, value_of}
 use Rattle.lx_circuit.specs.Circuit.{Made, nothing, IsMade, KeepsShapes, Step, StepsFit, InputsFit, IsView}

@@ -1,6 +1,6 @@
 -- The instance keeps what designs keep: nothing that is proved of designs is empty.
-use Rattle.std.proofs.Common.{◌≡◌, ℕ, ◌+◌, ◌<◌, ◌≤◌, true, false, List, [], ◌∷◌, length, Option, Some, None, refl, sym, ap, subst, arith, zero, suc}
-use Rattle.std.specs.Prelude.{slice_get, IfSome, IsTrue}
+use Rattle.std.proofs.Common.{◌≡◌, ℕ, ◌<◌, ◌≤◌, List, [], ◌∷◌, Some, None, refl, subst, arith, zero, suc}
+use Rattle.std.specs.Prelude.{slice_get}
 use Rattle.lx_num.proofs.Ranges.{fits_pos}
 use Rattle.lx_tables.specs.PythonWords.{python_words}
 use Rattle.lx_arena.specs.Lower.{EachLower}
@@ -12,11 +12,8 @@ use Rattle.lx_fhdl.specs.Trees.{term_below, term_at}
 use Rattle.lx_fhdl.specs.Stmts.{target_within, target_at, stmt_within, stmt_at}
 use Rattle.lx_fhdl.specs.Designs as design
 use Rattle.lx_fhdl.specs.Designs.{circuit_of, shapes}
-use Rattle.lx_fhdl.specs.Keeping.{EachOf, NamesBelow, IsSignal, TargetStands, StmtStands, ListStands, PartStands, IsDomain, Keeps}
+use Rattle.lx_fhdl.specs.Keeping.{EachOf, NamesBelow, IsSignal, TargetStands, StmtStands, Keeps}
 use Rattle.lx_fhdl.specs.Instance.{instance_exprs, instance_targets, instance_stmts, instance_signals, instance}
-use Rattle.lx_fhdl.specs.declared.exprs.Expr.{Expr}
-use Rattle.lx_fhdl.specs.declared.stmts.Target.{Target}
-use Rattle.lx_fhdl.specs.declared.stmts.Stmt.{Stmt}
 
 -- a fact of each item of a list, at a place
 pub each_of_at : {T : Type 0} (P : T → Type 0) (xs : List T) → EachOf P xs → (k : ℕ) (x : T) → slice_get xs k ≡ Some x → P x

@@ -1,5 +1,5 @@
 -- The target and the statement at a place are made of those at the places of their parts.
-use Rattle.std.proofs.Common.{◌≡◌, ℕ, ◌<◌, Bool, true, List, [], ◌∷◌, Option, Some, None, refl, sym, ◌∙◌, ap, arith, suc, zero, ◌&&◌, nat_lt}
+use Rattle.std.proofs.Common.{◌≡◌, ℕ, ◌<◌, Bool, true, List, [], ◌∷◌, Option, Some, None, refl, sym, ◌∙◌, ap, arith, suc, zero, nat_lt}
 use Rattle.std.specs.Prelude.{slice_get, IfSome, IsTrue}
 use Rattle.std.proofs.lemmas.Bool.{ltb-true, and_parts}
 use Rattle.lx_arena.specs.Lower.{EachLower}

@@ -1,15 +1,14 @@
 -- A tree without a fault has a small shape, and its value fits it.
-use Rattle.std.proofs.Common.{◌≡◌, ℕ, ◌+◌, ◌-◌, ◌*◌, ◌^◌, ◌<◌, ◌≤◌, Bool, true, false, ◌||◌, List, [], ◌∷◌, length, refl, sym, ◌∙◌, ap, subst, arith, zero, suc}
-use Rattle.std.specs.Prelude.{ℤ, pos, Option, Some, None}
+use Rattle.std.proofs.Common.{◌≡◌, ℕ, ◌-◌, ◌^◌, ◌<◌, ◌≤◌, Bool, true, false, ◌||◌, List, [], ◌∷◌, refl, ap, arith, zero, suc}
+use Rattle.std.specs.Prelude.{ℤ, pos, None}
 use Rattle.std.proofs.lemmas.Nat.{pow_pos, pow-add, mul-add-lt}
 use Rattle.lx_num.specs.declared.Shape.{Shape}
 use Rattle.lx_num.specs.Ints.{modulo, FitsBits, Fits}
 use Rattle.lx_num.proofs.Ints.{modulo-below}
 use Rattle.lx_num.proofs.Ranges.{fits_pos, fits_wider, FitsBits-wrap_bits}
-use Rattle.lx_circuit.specs.declared.WidthFault.{WidthFault}
 use Rattle.lx_circuit.specs.Terms as term
 use Rattle.lx_circuit.specs.Terms.{Term, Terms, NoTerm, MoreTerms}
-use Rattle.lx_circuit.specs.Shapes.{Shapes, shape_of, shapes_of, fault_of, faults_of, joined, joined_bits, bits_sum, some_signed, widest, pick_shape, unary_shape, binary_shape, too_wide, or_else, index_fault, constant_fault, binary_fault, replicate_fault, slice_fault, pick_fault}
+use Rattle.lx_circuit.specs.Shapes.{Shapes, shape_of, shapes_of, fault_of, faults_of, joined, joined_bits, bits_sum, some_signed, widest, pick_shape, unary_shape, too_wide, or_else, index_fault, binary_fault, replicate_fault, slice_fault, pick_fault}
 use Rattle.lx_circuit.specs.Values.{Values, value_of, values_of, cat_pattern, nth_or_last, count_of}
 use Rattle.lx_fhdl.specs.Keeping.{EachOf}
 use Rattle.lx_fhdl.specs.Nodes.{IsSmall}

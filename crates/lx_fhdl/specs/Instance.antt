@@ -1,7 +1,6 @@
 -- A design that keeps what designs keep: a counter of two bits beside statements of every kind.
 use Rattle.std.specs.Prelude.{ℕ, pos, false, List, [], ◌∷◌, Some, codes}
 use Rattle.lx_num.specs.Ints.{unsigned}
-use Rattle.lx_arena.specs.declared.Id.{Id}
 use Rattle.lx_tables.specs.declared.operators.Op.TheVariants as op
 use Rattle.lx_fhdl.specs.Below.{ExprId, TargetId, StmtId}
 use Rattle.lx_fhdl.specs.declared.exprs.SigId.{SigId}
@@ -9,13 +8,9 @@ use Rattle.lx_fhdl.specs.declared.exprs.Expr.{Expr}
 use Rattle.lx_fhdl.specs.declared.exprs.Expr.TheVariants as expr
 use Rattle.lx_fhdl.specs.declared.stmts.Target.{Target}
 use Rattle.lx_fhdl.specs.declared.stmts.Target.TheVariants as target
-use Rattle.lx_fhdl.specs.declared.stmts.Branch.{Branch}
-use Rattle.lx_fhdl.specs.declared.stmts.Arm.{Arm}
 use Rattle.lx_fhdl.specs.declared.stmts.Stmt.{Stmt}
 use Rattle.lx_fhdl.specs.declared.stmts.Stmt.TheVariants as stmt
 use Rattle.lx_fhdl.specs.declared.design.Signal.{Signal}
-use Rattle.lx_fhdl.specs.declared.design.Domain.{Domain}
-use Rattle.lx_fhdl.specs.declared.design.SyncPart.{SyncPart}
 use Rattle.lx_fhdl.specs.declared.design.Design.{Design}
 
 abbrev pub the_signal : ℕ → SigId
