@@ -6,6 +6,9 @@ use Rattle.std.specs.Str.{bytes_eq}
 use Rattle.std.proofs.lemmas.Bool.{and_parts, cases_eq}
 use Rattle.std.proofs.lemmas.List.{append-nil, map-append}
 use Rattle.std.proofs.lemmas.Slice.Eq.{bytes_eq-Decides}
+use Rattle.lx_vtext.specs.Tree.{Name, VNet, VPort, VDecl, NetDecl, MemoryDecl, VAssign, VAlways}
+use Rattle.lx_vmeaning.specs.Runs.{decl_nets, decl_memories, net_named, outside_drivers, assign_drivers, block_drivers, always_driver, sets_block, Driver, Outside, ByAssign}
+use Rattle.lx_vmeaning.specs.Cycle as cycle
 use Rattle.lx_fhdl.specs.Keeping.{is_distinct}
 use Rattle.lx_emission.specs.Emission.{places_from}
 
@@ -137,3 +140,109 @@ each_mapped P f (x ∷ xs) h = (h.0, each_mapped P f xs h.1)
 pub all_from_each : {A : Type 0} (P : A → Bool) (xs : List A) → AllByRecursion (λ x. P x ≡ true) xs → list_all P xs ≡ true
 all_from_each P [] h = refl
 all_from_each P (x ∷ xs) h = rw (h.0, all_from_each P xs h.1) refl
+
+-- ---- nets by name
+
+-- the nets of a list that have a name
+abbrev pub called : Name → List VNet → List VNet
+called n [] = []
+called n (x ∷ xs) = cond (bytes_eq x.name n) (x ∷ called n xs) (called n xs)
+
+choice_joined : {B : Type 0} (b : Bool) (e : B) (both xs ys : List B) → both ≡ xs ++ ys → cond b (e ∷ both) both ≡ cond b (e ∷ xs) xs ++ ys
+choice_joined true e both xs ys h = ap (λ t. e ∷ t) h
+choice_joined false e both xs ys h = h
+
+called_joined : (n : Name) (xs ys : List VNet) → called n (xs ++ ys) ≡ called n xs ++ called n ys
+called_joined n [] ys = refl
+called_joined n (x ∷ xs) ys = choice_joined (bytes_eq x.name n) x (called n (xs ++ ys)) (called n xs) (called n ys) (called_joined n xs ys)
+
+pub collects_called : (n : Name) → Collects (called n)
+collects_called n = record { none = refl; joined = called_joined n }
+
+decl_nets-append : (xs ys : List VDecl) → decl_nets (xs ++ ys) ≡ decl_nets xs ++ decl_nets ys
+decl_nets-append [] ys = refl
+decl_nets-append (NetDecl x ∷ xs) ys = ap (λ t. x ∷ t) (decl_nets-append xs ys)
+decl_nets-append (MemoryDecl x ∷ xs) ys = decl_nets-append xs ys
+
+pub collects_decls : Collects decl_nets
+collects_decls = record { none = refl; joined = decl_nets-append }
+
+decl_memories-append : (xs ys : List VDecl) → decl_memories (xs ++ ys) ≡ decl_memories xs ++ decl_memories ys
+decl_memories-append [] ys = refl
+decl_memories-append (NetDecl x ∷ xs) ys = decl_memories-append xs ys
+decl_memories-append (MemoryDecl x ∷ xs) ys = ap (λ t. x ∷ t) (decl_memories-append xs ys)
+
+pub collects_memories : Collects decl_memories
+collects_memories = record { none = refl; joined = decl_memories-append }
+
+outside-append : (n : Name) (xs ys : List VPort) → outside_drivers n (xs ++ ys) ≡ outside_drivers n xs ++ outside_drivers n ys
+outside-append n [] ys = refl
+outside-append n (x ∷ xs) ys =
+    choice_joined (x.is_input && bytes_eq x.net.name n) Outside (outside_drivers n (xs ++ ys)) (outside_drivers n xs) (outside_drivers n ys) (outside-append n xs ys)
+
+pub collects_outside : (n : Name) → Collects (outside_drivers n)
+collects_outside n = record { none = refl; joined = outside-append n }
+
+assigns-append : (n : Name) (xs ys : List VAssign) → assign_drivers n (xs ++ ys) ≡ assign_drivers n xs ++ assign_drivers n ys
+assigns-append n [] ys = refl
+assigns-append n (x ∷ xs) ys =
+    choice_joined (bytes_eq x.name n) (ByAssign x.value) (assign_drivers n (xs ++ ys)) (assign_drivers n xs) (assign_drivers n ys) (assigns-append n xs ys)
+
+pub collects_assigns : (n : Name) → Collects (assign_drivers n)
+collects_assigns n = record { none = refl; joined = assigns-append n }
+
+blocks-append : (n : Name) (xs ys : List VAlways) → block_drivers n (xs ++ ys) ≡ block_drivers n xs ++ block_drivers n ys
+blocks-append n [] ys = refl
+blocks-append n (x ∷ xs) ys =
+    choice_joined (sets_block n x.body) (always_driver x.clock x.body) (block_drivers n (xs ++ ys)) (block_drivers n xs) (block_drivers n ys) (blocks-append n xs ys)
+
+pub collects_blocks : (n : Name) → Collects (block_drivers n)
+collects_blocks n = record { none = refl; joined = blocks-append n }
+
+-- the first net of a name is the first that has it
+abbrev pub first_net : List VNet → Option VNet
+first_net [] = None
+first_net (x ∷ xs) = Some x
+
+pub net_named_is : (n : Name) (xs : List VNet) → net_named n xs ≡ first_net (called n xs)
+net_named_is n [] = refl
+net_named_is n (x ∷ xs) = by (bytes_eq x.name n) (net_named_is n xs)
+  where
+    by : (b : Bool) → net_named n xs ≡ first_net (called n xs) → cond b (Some x) (net_named n xs) ≡ first_net (cond b (x ∷ called n xs) (called n xs))
+    by true h = refl
+    by false h = h
+
+-- a name that no net has is not among the nets' names
+not_among : (n : Name) (xs : List VNet) → called n xs ≡ [] → list_any (λ k. bytes_eq k n) (map (λ x. x.name) xs) ≡ false
+not_among n [] h = refl
+not_among n (x ∷ xs) h = by (bytes_eq x.name n) h (not_among n xs)
+  where
+    by : (b : Bool) → cond b (x ∷ called n xs) (called n xs) ≡ [] → (called n xs ≡ [] → list_any (λ k. bytes_eq k n) (map (λ y. y.name) xs) ≡ false) → (b || list_any (λ k. bytes_eq k n) (map (λ y. y.name) xs)) ≡ false
+    by true h ih = absurd cc
+    by false h ih = ih h
+
+-- at most one
+abbrev pub is_once : {A : Type 0} → List A → Bool
+is_once [] = true
+is_once (x ∷ []) = true
+is_once (x ∷ (y ∷ ys)) = false
+
+once_alone : {A : Type 0} (x : A) (xs : List A) → is_once (x ∷ xs) ≡ true → xs ≡ []
+once_alone x [] h = refl
+once_alone x (y ∷ ys) h = absurd cc
+
+once_after : {A : Type 0} (x : A) (xs : List A) → is_once (x ∷ xs) ≡ true → is_once xs ≡ true
+once_after x [] h = refl
+once_after x (y ∷ ys) h = absurd cc
+
+-- names are distinct where each is the name of at most one net
+pub distinct_from_once : (xs : List VNet) → ((n : Name) → is_once (called n xs) ≡ true) → cycle.is_distinct (map (λ x. x.name) xs) ≡ true
+distinct_from_once [] h = refl
+distinct_from_once (x ∷ xs) h =
+    let own : is_once (x ∷ called x.name xs) ≡ true = rw (name_same x.name x.name refl) at (h x.name) in
+    let none = not_among x.name xs (once_alone x (called x.name xs) own) in
+    rw none (distinct_from_once xs (λ n. by (bytes_eq x.name n) n (h n)))
+  where
+    by : (b : Bool) (n : Name) → is_once (cond b (x ∷ called n xs) (called n xs)) ≡ true → is_once (called n xs) ≡ true
+    by true n t = once_after x (called n xs) t
+    by false n t = t

@@ -1,0 +1,234 @@
+-- The structure of the module of a design: its ports and nets, and which names they have.
+use Rattle.std.proofs.Common.{◌≡◌, ℕ, zero, suc, ◌<◌, ◌≤◌, ◌+◌, Bool, true, false, not, ◌&&◌, ◌||◌, cond, List, [], ◌∷◌, ◌++◌, length, map, flat_map, refl, sym, ap, ◌∙◌, subst, arith, inl, inr, ◌⊎◌, eqb, eqb-true, eq-eqb, ne_eqb, append_assoc}
+use Rattle.std.specs.Prelude.{Option, Some, None, option_map, slice_get, IsTrue, IfSome, nat_eq, codes}
+use Rattle.std.specs.List.{list_all, list_any, AllByRecursion}
+use Rattle.std.specs.Str.{bytes_eq}
+use Rattle.std.proofs.lemmas.Bool.{and_parts, cases_eq}
+use Rattle.std.proofs.lemmas.List.{append_cancel_right}
+use Rattle.std.proofs.lemmas.Option.{slice_get_within}
+use Rattle.lx_circuit.specs.Circuit as circuit
+use Rattle.lx_vtext.specs.Tree.{Name, VNet, VPort}
+use Rattle.lx_fhdl.specs.Designs.{circuit_of, signal_number, domains_from, domain_of}
+use Rattle.lx_fhdl.specs.Keeping.{Keeps, IsDomain, HasResetPath, reset_name, EachOf, is_distinct}
+use Rattle.lx_fhdl.specs.declared.exprs.SigId.{SigId}
+use Rattle.lx_fhdl.specs.declared.design.Signal.{Signal}
+use Rattle.lx_fhdl.specs.declared.design.Domain.{Domain}
+use Rattle.lx_fhdl.specs.declared.design.Design.{Design}
+use Rattle.lx_emission.specs.Naming.{net, clock, NamesFit}
+use Rattle.lx_emission.specs.Emission.{wire, signal_port, reset_port, domain_port, domain_ports, ports_of, is_port}
+use Rattle.lx_emission.specs.Emits.{PortsFit, are_once, none_is_reset}
+use Rattle.lx_emission.proofs.Lists.{is_false, not_true, name_same, Collects, collects_next, none_of_two, first_of_two, second_of_two, each_of_two}
+
+-- ---- the resets of domains
+
+-- a signal has the path of the reset of a domain of this name
+pub record IsResetOf (d : Design) (name : List ℕ) (r : ℕ) : Type 0 where
+  pub signal : Signal
+  pub there : slice_get d.signals r ≡ Some signal
+  pub path : signal.path ≡ reset_name name ∷ []
+
+reset_is : (d : Design) (x : Domain) (r : ℕ) (o : Option Signal) → slice_get d.signals r ≡ o → HasResetPath x o → IsResetOf d x.name r
+reset_is d x r None e h = absurd h
+reset_is d x r (Some s) e h = record { signal = s; there = e; path = h }
+
+reset_of : (d : Design) (x : Domain) (r : SigId) → IsDomain d x → x.reset ≡ Some r → IsResetOf d x.name r.0
+reset_of d x r h e =
+    let p = subst (λ o. IfSome o (λ (q : SigId). HasResetPath x (slice_get d.signals q.0))) e h.reset in
+    reset_is d x r.0 (slice_get d.signals r.0) refl p
+
+pub reset_within : (d : Design) (x : Domain) (r : SigId) → IsDomain d x → x.reset ≡ Some r → r.0 < length d.signals
+reset_within d x r h e = let p = reset_of d x r h e in slice_get_within d.signals r.0 p.signal p.there
+
+-- one signal is the reset of domains of one name
+reset_once : (d : Design) (a b : List ℕ) (r : ℕ) → IsResetOf d a r → IsResetOf d b r → a ≡ b
+reset_once d a b r p q =
+    let first : Some p.signal ≡ Some q.signal = sym p.there ∙ q.there in
+    let same : p.signal ≡ q.signal = cc in
+    let paths : reset_name a ∷ [] ≡ reset_name b ∷ [] = sym p.path ∙ ap (λ (s : Signal). s.path) same ∙ q.path in
+    let names : reset_name a ≡ reset_name b = cc in
+    append_cancel_right a b (codes "_rst") names
+
+-- the reset of another domain
+other_reset : (d : Design) (name : List ℕ) (r : ℕ) (y : Domain) → IsResetOf d name r → IsDomain d y → bytes_eq name y.name ≡ false → circuit.is_reset_name r (option_map signal_number y.reset) ≡ false
+other_reset d name r y p h ne = by y.reset refl
+  where
+    by : (o : Option SigId) → y.reset ≡ o → circuit.is_reset_name r (option_map signal_number o) ≡ false
+    by None e = refl
+    by (Some q) e =
+        is_false (nat_eq q.0 r) (λ t.
+        let same = eqb-true q.0 r t in
+        let own : IsResetOf d y.name r = subst (λ i. IsResetOf d y.name i) same (reset_of d y q h e) in
+        let found = name_same name y.name (reset_once d name y.name r p own) in
+        cc)
+
+no_reset : (d : Design) (name : List ℕ) (r k : ℕ) (ys : List Domain) → IsResetOf d name r → EachOf (IsDomain d) ys → list_any (bytes_eq name) (map (λ (x : Domain). x.name) ys) ≡ false → circuit.is_some_reset r (domains_from d k ys) ≡ false
+no_reset d name r k [] p h ne = refl
+no_reset d name r k (y ∷ ys) p h ne =
+    let parts = or_false (bytes_eq name y.name) (list_any (bytes_eq name) (map (λ (x : Domain). x.name) ys)) ne in
+    rw (other_reset d name r y p h.0 parts.0) (no_reset d name r (k + 1) ys p h.1 parts.1)
+  where
+    or_false : (a b : Bool) → (a || b) ≡ false → (a ≡ false) × (b ≡ false)
+    or_false true b e = absurd cc
+    or_false false b e = (refl, e)
+
+-- ---- what is collected from the ports
+
+abbrev pub clock_port : Design → ℕ → VPort
+clock_port d k = record { is_input = true; net = wire false 1 (clock d k) }
+
+-- nothing comes from the clocks from number k on, but those that a test excepts
+abbrev pub NoneAtClocks : {B : Type 0} → (List VPort → List B) → Design → (ℕ → Type 0) → Type 0
+NoneAtClocks F d Other = (k : ℕ) → k < length d.domains → Other k → F (clock_port d k ∷ []) ≡ []
+
+abbrev pub NoneAtSignals : {B : Type 0} → (List VPort → List B) → Design → List Name → (ℕ → Type 0) → Type 0
+NoneAtSignals F d names Other = (x : ℕ) → x < length d.signals → Other x → F (signal_port d names x ∷ []) ≡ []
+
+-- the ports of a domain
+domain_part : {B : Type 0} (F : List VPort → List B) → Collects F → (d : Design) (names : List Name) (k : ℕ) (y : Domain) (ys : List Domain)
+    → F (domain_ports d names k (y ∷ ys)) ≡ F (clock_port d k ∷ []) ++ (F (reset_port d names y.reset) ++ F (domain_ports d names (k + 1) ys))
+domain_part F c d names k y ys =
+    c.joined (domain_port d names k y) (domain_ports d names (k + 1) ys)
+    ∙ ap (λ t. t ++ F (domain_ports d names (k + 1) ys)) (collects_next F c (clock_port d k) (reset_port d names y.reset))
+    ∙ append_assoc (F (clock_port d k ∷ [])) (F (reset_port d names y.reset)) (F (domain_ports d names (k + 1) ys))
+
+-- no clock and no signal gives anything
+reset_none : {B : Type 0} (F : List VPort → List B) → Collects F → (d : Design) (names : List Name) (y : Domain) → IsDomain d y → NoneAtSignals F d names (λ x. Unit {0}) → F (reset_port d names y.reset) ≡ []
+reset_none F c d names y h none = by y.reset refl
+  where
+    by : (o : Option SigId) → y.reset ≡ o → F (reset_port d names o) ≡ []
+    by None e = c.none
+    by (Some r) e = none r.0 (reset_within d y r h e) tt
+
+domains_none : {B : Type 0} (F : List VPort → List B) → Collects F → (d : Design) (names : List Name) (k : ℕ) (ys : List Domain) → EachOf (IsDomain d) ys → NoneAtSignals F d names (λ x. Unit {0})
+    → ((j : ℕ) → k ≤ j → j < k + length ys → F (clock_port d j ∷ []) ≡ []) → F (domain_ports d names k ys) ≡ []
+domains_none F c d names k [] h signals clocks = c.none
+domains_none F c d names k (y ∷ ys) h signals clocks =
+    domain_part F c d names k y ys
+    ∙ none_of_two (F (clock_port d k ∷ [])) (F (reset_port d names y.reset) ++ F (domain_ports d names (k + 1) ys)) (clocks k (omega arith) (omega arith))
+    (none_of_two (F (reset_port d names y.reset)) (F (domain_ports d names (k + 1) ys)) (reset_none F c d names y h.0 signals)
+    (domains_none F c d names (k + 1) ys h.1 signals (λ j p q. clocks j (omega arith) (omega arith))))
+
+-- one clock gives something
+domains_clock : {B : Type 0} (F : List VPort → List B) → Collects F → (d : Design) (names : List Name) (n k : ℕ) (ys : List Domain) → EachOf (IsDomain d) ys → NoneAtSignals F d names (λ x. Unit {0}) → k ≤ n → n < k + length ys
+    → ((j : ℕ) → k ≤ j → j < k + length ys → (j ≡ n → ⊥) → F (clock_port d j ∷ []) ≡ []) → F (domain_ports d names k ys) ≡ F (clock_port d n ∷ [])
+domains_clock F c d names n k [] h signals low high clocks = absurd (omega arith)
+domains_clock F c d names n k (y ∷ ys) h signals low high clocks = elim (cases_eq k n) [
+  | inl same ↦
+      domain_part F c d names k y ys
+      ∙ first_of_two (F (clock_port d k ∷ [])) (F (reset_port d names y.reset) ++ F (domain_ports d names (k + 1) ys))
+      (none_of_two (F (reset_port d names y.reset)) (F (domain_ports d names (k + 1) ys)) (reset_none F c d names y h.0 signals)
+      (domains_none F c d names (k + 1) ys h.1 signals (λ j p q. clocks j (omega arith) (omega arith) (λ e. omega (arith, e, same, p)))))
+      ∙ ap (λ (i : ℕ). F (clock_port d i ∷ [])) same
+  | inr other ↦
+      domain_part F c d names k y ys
+      ∙ second_of_two (F (clock_port d k ∷ [])) (F (reset_port d names y.reset) ++ F (domain_ports d names (k + 1) ys)) (clocks k (omega arith) (omega arith) other)
+      ∙ second_of_two (F (reset_port d names y.reset)) (F (domain_ports d names (k + 1) ys)) (reset_none F c d names y h.0 signals)
+      ∙ domains_clock F c d names n (k + 1) ys h.1 signals (omega (arith, other)) (omega arith) (λ j p q. clocks j (omega arith) (omega arith))
+]
+
+-- one signal gives something
+reset_signal : {B : Type 0} (F : List VPort → List B) → Collects F → (d : Design) (names : List Name) (x : ℕ) (y : Domain) (some : Bool) (rest : List B) → IsDomain d y → NoneAtSignals F d names (λ z. z ≡ x → ⊥)
+    → rest ≡ cond some (F (signal_port d names x ∷ [])) [] → (IsResetOf d y.name x → some ≡ false)
+    → F (reset_port d names y.reset) ++ rest ≡ cond (circuit.is_reset_name x (option_map signal_number y.reset) || some) (F (signal_port d names x ∷ [])) []
+reset_signal F c d names x y some rest h signals e alone = by y.reset refl
+  where
+    by : (o : Option SigId) → y.reset ≡ o → F (reset_port d names o) ++ rest ≡ cond (circuit.is_reset_name x (option_map signal_number o) || some) (F (signal_port d names x ∷ [])) []
+    by None p = second_of_two (F []) rest c.none ∙ e
+    by (Some r) p = elim (cases_eq r.0 x) [
+      | inl same ↦
+          let none = alone (subst (λ (i : ℕ). IsResetOf d y.name i) same (reset_of d y r h p)) in
+          let gone : rest ≡ [] = e ∙ rw none refl in
+          first_of_two (F (signal_port d names r.0 ∷ [])) rest gone
+          ∙ ap (λ (i : ℕ). F (signal_port d names i ∷ [])) same
+          ∙ rw (eq-eqb r.0 x same) refl
+      | inr other ↦
+          second_of_two (F (signal_port d names r.0 ∷ [])) rest (signals r.0 (reset_within d y r h p) other)
+          ∙ e ∙ rw (ne_eqb r.0 x other) refl
+    ]
+
+domains_signal : {B : Type 0} (F : List VPort → List B) → Collects F → (d : Design) (names : List Name) (x k : ℕ) (ys : List Domain) → EachOf (IsDomain d) ys → is_distinct (map (λ (y : Domain). y.name) ys) ≡ true
+    → NoneAtSignals F d names (λ y. y ≡ x → ⊥) → ((j : ℕ) → k ≤ j → j < k + length ys → F (clock_port d j ∷ []) ≡ [])
+    → F (domain_ports d names k ys) ≡ cond (circuit.is_some_reset x (domains_from d k ys)) (F (signal_port d names x ∷ [])) []
+domains_signal F c d names x k [] h once signals clocks = c.none
+domains_signal F c d names x k (y ∷ ys) h once signals clocks =
+    let parts = and_parts (not (list_any (bytes_eq y.name) (map (λ (z : Domain). z.name) ys))) (is_distinct (map (λ (z : Domain). z.name) ys)) once in
+    let fresh = not_true (list_any (bytes_eq y.name) (map (λ (z : Domain). z.name) ys)) parts.0 in
+    domain_part F c d names k y ys
+    ∙ second_of_two (F (clock_port d k ∷ [])) (F (reset_port d names y.reset) ++ F (domain_ports d names (k + 1) ys)) (clocks k (omega arith) (omega arith))
+    ∙ reset_signal F c d names x y (circuit.is_some_reset x (domains_from d (k + 1) ys)) (F (domain_ports d names (k + 1) ys)) h.0 signals
+    (domains_signal F c d names x (k + 1) ys h.1 parts.1 signals (λ j p q. clocks j (omega arith) (omega arith)))
+    (λ reset. no_reset d y.name x (k + 1) ys reset h.1 fresh)
+
+abbrev io_ports : Design → List Name → List SigId → List VPort
+io_ports d names is = map (λ (r : SigId). signal_port d names r.0) is
+
+ios_none : {B : Type 0} (F : List VPort → List B) → Collects F → (d : Design) (names : List Name) (is : List SigId) → EachOf (λ (r : SigId). r.0 < length d.signals) is → NoneAtSignals F d names (λ x. Unit {0}) → F (io_ports d names is) ≡ []
+ios_none F c d names [] h signals = c.none
+ios_none F c d names (r ∷ rs) h signals =
+    collects_next F c (signal_port d names r.0) (io_ports d names rs)
+    ∙ none_of_two (F (signal_port d names r.0 ∷ [])) (F (io_ports d names rs)) (signals r.0 h.0 tt) (ios_none F c d names rs h.1 signals)
+
+ios_signal : {B : Type 0} (F : List VPort → List B) → Collects F → (d : Design) (names : List Name) (x : ℕ) (is : List SigId) → EachOf (λ (r : SigId). r.0 < length d.signals) is → are_once (map signal_number is) ≡ true → NoneAtSignals F d names (λ y. y ≡ x → ⊥)
+    → F (io_ports d names is) ≡ cond (circuit.is_among x (map signal_number is)) (F (signal_port d names x ∷ [])) []
+ios_signal F c d names x [] h once signals = c.none
+ios_signal F c d names x (r ∷ rs) h once signals =
+    let parts = and_parts (not (circuit.is_among r.0 (map signal_number rs))) (are_once (map signal_number rs)) once in
+    let fresh = not_true (circuit.is_among r.0 (map signal_number rs)) parts.0 in
+    let rest = ios_signal F c d names x rs h.1 parts.1 signals in
+    collects_next F c (signal_port d names r.0) (io_ports d names rs)
+    ∙ elim (cases_eq r.0 x) [
+      | inl same ↦
+          let none : circuit.is_among x (map signal_number rs) ≡ false = ap (λ (i : ℕ). circuit.is_among i (map signal_number rs)) (sym same) ∙ fresh in
+          let gone : F (io_ports d names rs) ≡ [] = rest ∙ rw none refl in
+          first_of_two (F (signal_port d names r.0 ∷ [])) (F (io_ports d names rs)) gone
+          ∙ ap (λ (i : ℕ). F (signal_port d names i ∷ [])) same
+          ∙ rw (eq-eqb r.0 x same) refl
+      | inr other ↦
+          second_of_two (F (signal_port d names r.0 ∷ [])) (F (io_ports d names rs)) (signals r.0 h.0 other)
+          ∙ rest ∙ rw (ne_eqb r.0 x other) refl
+    ]
+
+-- a port is no reset
+no_port : (x : ℕ) (is : List ℕ) (ds : List circuit.Domain) → none_is_reset is ds ≡ true → circuit.is_among x is ≡ true → circuit.is_some_reset x ds ≡ false
+no_port x [] ds h e = absurd cc
+no_port x (i ∷ is) ds h e =
+    let parts = and_parts (not (circuit.is_some_reset i ds)) (none_is_reset is ds) h in
+    elim (cases_eq i x) [
+      | inl same ↦ ap (λ (j : ℕ). circuit.is_some_reset j ds) (sym same) ∙ not_true (circuit.is_some_reset i ds) parts.0
+      | inr other ↦
+          let rest : circuit.is_among x is ≡ true = sym (rw (ne_eqb i x other) refl) ∙ e in
+          no_port x is ds parts.1 rest
+    ]
+
+-- what comes of two parts of which one at most gives something
+one_of_parts : {B : Type 0} (a b : Bool) (own xs ys : List B) → xs ≡ cond a own [] → ys ≡ cond b own [] → (b ≡ true → a ≡ false) → xs ++ ys ≡ cond (b || a) own []
+one_of_parts a true own xs ys p q alone = second_of_two xs ys (p ∙ rw (alone refl) refl) ∙ q
+one_of_parts a false own xs ys p q alone = first_of_two xs ys q ∙ p
+
+pub ports_signal : {B : Type 0} (F : List VPort → List B) → Collects F → (d : Design) (names : List Name) → Keeps d → PortsFit d → (x : ℕ) → NoneAtSignals F d names (λ y. y ≡ x → ⊥) → NoneAtClocks F d (λ k. Unit {0})
+    → F (ports_of d names) ≡ cond (is_port d x) (F (signal_port d names x ∷ [])) []
+unfolding ports_of is_port circuit_of
+ports_signal F c d names keeps ports x signals clocks =
+    c.joined (domain_ports d names 0 d.domains) (io_ports d names d.ios)
+    ∙ one_of_parts (circuit.is_some_reset x (domains_from d 0 d.domains)) (circuit.is_among x (map signal_number d.ios)) (F (signal_port d names x ∷ []))
+    (F (domain_ports d names 0 d.domains)) (F (io_ports d names d.ios))
+    (domains_signal F c d names x 0 d.domains keeps.domains keeps.domains_distinct signals (λ j p q. clocks j (omega arith) tt))
+    (ios_signal F c d names x d.ios keeps.ios ports.once signals)
+    (λ e. no_port x (map signal_number d.ios) (domains_from d 0 d.domains) ports.resets e)
+
+pub ports_clock : {B : Type 0} (F : List VPort → List B) → Collects F → (d : Design) (names : List Name) → Keeps d → (k : ℕ) → k < length d.domains → NoneAtSignals F d names (λ y. Unit {0}) → NoneAtClocks F d (λ j. j ≡ k → ⊥)
+    → F (ports_of d names) ≡ F (clock_port d k ∷ [])
+unfolding ports_of
+ports_clock F c d names keeps k lt signals clocks =
+    c.joined (domain_ports d names 0 d.domains) (io_ports d names d.ios)
+    ∙ first_of_two (F (domain_ports d names 0 d.domains)) (F (io_ports d names d.ios)) (ios_none F c d names d.ios keeps.ios signals)
+    ∙ domains_clock F c d names k 0 d.domains keeps.domains signals (omega arith) (omega arith) (λ j p q other. clocks j (omega arith) other)
+
+pub ports_none : {B : Type 0} (F : List VPort → List B) → Collects F → (d : Design) (names : List Name) → Keeps d → NoneAtSignals F d names (λ y. Unit {0}) → NoneAtClocks F d (λ j. Unit {0})
+    → F (ports_of d names) ≡ []
+unfolding ports_of
+ports_none F c d names keeps signals clocks =
+    c.joined (domain_ports d names 0 d.domains) (io_ports d names d.ios)
+    ∙ none_of_two (F (domain_ports d names 0 d.domains)) (F (io_ports d names d.ios))
+    (domains_none F c d names 0 d.domains keeps.domains signals (λ j p q. clocks j (omega arith) tt))
+    (ios_none F c d names d.ios keeps.ios signals)
