@@ -7,17 +7,23 @@ use Rattle.std.proofs.lemmas.Bool.{and_parts, cases_eq}
 use Rattle.std.proofs.lemmas.List.{append_cancel_right}
 use Rattle.std.proofs.lemmas.Option.{slice_get_within}
 use Rattle.lx_circuit.specs.Circuit as circuit
-use Rattle.lx_vtext.specs.Tree.{Name, VNet, VPort}
+use Rattle.lx_vtext.specs.Tree.{Name, VNet, VPort, VDecl, NetDecl}
+use Rattle.lx_vmeaning.specs.Runs.{decl_nets, all_nets, net_named}
 use Rattle.lx_fhdl.specs.Designs.{circuit_of, signal_number, domains_from, domain_of}
 use Rattle.lx_fhdl.specs.Keeping.{Keeps, IsDomain, HasResetPath, reset_name, EachOf, is_distinct}
 use Rattle.lx_fhdl.specs.declared.exprs.SigId.{SigId}
+use Rattle.lx_fhdl.specs.declared.exprs.Expr.{Expr}
 use Rattle.lx_fhdl.specs.declared.design.Signal.{Signal}
 use Rattle.lx_fhdl.specs.declared.design.Domain.{Domain}
 use Rattle.lx_fhdl.specs.declared.design.Design.{Design}
-use Rattle.lx_emission.specs.Naming.{net, clock, NamesFit}
-use Rattle.lx_emission.specs.Emission.{wire, signal_port, reset_port, domain_port, domain_ports, ports_of, is_port}
+use Rattle.lx_emission.specs.Naming.{net, node_net, nets_before, clock, NamesFit}
+use Rattle.lx_emission.specs.Nodes.{node_shape}
+use Rattle.lx_emission.specs.Signals.{signal_net}
+use Rattle.lx_emission.specs.Emission.{wire, signal_port, reset_port, domain_port, domain_ports, ports_of, is_port, is_net_node, inner_decl, node_decl, decls_of, places_from, emitted}
 use Rattle.lx_emission.specs.Emits.{PortsFit, are_once, none_is_reset}
-use Rattle.lx_emission.proofs.Lists.{is_false, not_true, name_same, Collects, collects_next, none_of_two, first_of_two, second_of_two, each_of_two}
+use Rattle.lx_emission.proofs.Lists.{is_false, not_true, name_same, name_other, Collects, collects_next, collects_after, collects_map, none_of_two, first_of_two, second_of_two, none_at_places, one_at_places, each_of_two, called, collects_called, collects_decls}
+use Rattle.lx_emission.proofs.Names.{node_net_once, clock_once, clock_not_node, net_once, net_not_clock, net_not_node}
+use Rattle.lx_emission.proofs.Setting.{IsNetNode}
 
 -- ---- the resets of domains
 
@@ -232,3 +238,167 @@ ports_none F c d names keeps signals clocks =
     ∙ none_of_two (F (domain_ports d names 0 d.domains)) (F (io_ports d names d.ios))
     (domains_none F c d names 0 d.domains keeps.domains signals (λ j p q. clocks j (omega arith) tt))
     (ios_none F c d names d.ios keeps.ios signals)
+
+-- ---- nets by name
+
+pub net_name : (d : Design) (names : List Name) (x : ℕ) → (signal_net d names x).name ≡ net names x
+unfolding signal_net
+net_name d names x = refl
+
+abbrev pub node_wire : Design → ℕ → VNet
+node_wire d k = wire (node_shape d k).signed (node_shape d k).bits (node_net d.exprs k)
+
+abbrev pub clock_wire : Design → ℕ → VNet
+clock_wire d k = wire false 1 (clock d k)
+
+called_own : (n : Name) (x : VNet) → x.name ≡ n → called n (x ∷ []) ≡ x ∷ []
+called_own n x e = rw (name_same x.name n e) refl
+
+called_other : (n : Name) (x : VNet) → (x.name ≡ n → ⊥) → called n (x ∷ []) ≡ []
+called_other n x ne = rw (name_other x.name n ne) refl
+
+-- the nets of ports that have a name
+abbrev port_nets : Name → List VPort → List VNet
+port_nets n ps = called n (map (λ (p : VPort). p.net) ps)
+
+collects_port_nets : (n : Name) → Collects (port_nets n)
+collects_port_nets n = collects_after (called n) (λ (ps : List VPort). map (λ (p : VPort). p.net) ps) (collects_called n) (collects_map (λ (p : VPort). p.net))
+
+abbrev decl_called : Name → List VDecl → List VNet
+decl_called n ds = called n (decl_nets ds)
+
+collects_decl_called : (n : Name) → Collects (decl_called n)
+collects_decl_called n = collects_after (called n) decl_nets (collects_called n) collects_decls
+
+-- a place with a net
+pub net_node_at : (d : Design) (k : ℕ) → is_net_node (slice_get d.exprs k) ≡ true → IsNetNode d k
+net_node_at d k h = by (slice_get d.exprs k) refl h
+  where
+    by : (o : Option Expr) → slice_get d.exprs k ≡ o → is_net_node o ≡ true → IsNetNode d k
+    by None e t = absurd cc
+    by (Some x) e t = record { node = x; there = e; net = t }
+
+pub net_node_is : (d : Design) (k : ℕ) → IsNetNode d k → is_net_node (slice_get d.exprs k) ≡ true
+net_node_is d k p = rw p.there p.net
+
+pub net_node_within : (d : Design) (k : ℕ) → IsNetNode d k → k < length d.exprs
+net_node_within d k p = slice_get_within d.exprs k p.node p.there
+
+inner_own : (d : Design) (names : List Name) (x : ℕ) → decl_called (net names x) (inner_decl d names x) ≡ cond (is_port d x) [] (signal_net d names x ∷ [])
+unfolding inner_decl
+inner_own d names x = by (is_port d x)
+  where
+    by : (b : Bool) → decl_called (net names x) (cond b [] (NetDecl (signal_net d names x) ∷ [])) ≡ cond b [] (signal_net d names x ∷ [])
+    by true = refl
+    by false = called_own (net names x) (signal_net d names x) (net_name d names x)
+
+inner_other : (d : Design) (names : List Name) (n : Name) (x : ℕ) → (net names x ≡ n → ⊥) → decl_called n (inner_decl d names x) ≡ []
+unfolding inner_decl
+inner_other d names n x ne = by (is_port d x)
+  where
+    by : (b : Bool) → decl_called n (cond b [] (NetDecl (signal_net d names x) ∷ [])) ≡ []
+    by true = refl
+    by false = called_other n (signal_net d names x) (λ e. ne (sym (net_name d names x) ∙ e))
+
+node_own : (d : Design) (names : List Name) (k : ℕ) → IsNetNode d k → decl_called (node_net d.exprs k) (node_decl d names k) ≡ node_wire d k ∷ []
+unfolding node_decl
+node_own d names k p = rw (net_node_is d k p) (called_own (node_net d.exprs k) (node_wire d k) refl)
+
+node_other : (d : Design) (names : List Name) (n : Name) (k : ℕ) → (IsNetNode d k → node_net d.exprs k ≡ n → ⊥) → decl_called n (node_decl d names k) ≡ []
+unfolding node_decl
+node_other d names n k ne = by (is_net_node (slice_get d.exprs k)) refl
+  where
+    by : (b : Bool) → is_net_node (slice_get d.exprs k) ≡ b → decl_called n (cond b (NetDecl (node_wire d k) ∷ []) []) ≡ []
+    by true t = called_other n (node_wire d k) (ne (net_node_at d k t))
+    by false t = refl
+
+-- the nets of a name: among the ports, the other signals and the nodes
+nets_parts : (d : Design) (names : List Name) (n : Name)
+    → called n (all_nets (emitted d names)) ≡ port_nets n (ports_of d names) ++ (decl_called n (flat_map (inner_decl d names) (places_from 0 d.signals)) ++ decl_called n (flat_map (node_decl d names) (places_from 0 d.exprs)))
+unfolding emitted decls_of
+nets_parts d names n =
+    (collects_called n).joined (map (λ (p : VPort). p.net) (ports_of d names)) (decl_nets (decls_of d names))
+    ∙ ap (λ t. port_nets n (ports_of d names) ++ t) ((collects_decl_called n).joined (flat_map (inner_decl d names) (places_from 0 d.signals)) (flat_map (node_decl d names) (places_from 0 d.exprs)))
+
+-- a name that is no signal's, no clock's and no node's
+pub record IsNoSignal (d : Design) (names : List Name) (n : Name) : Type 0 where
+  pub each : (x : ℕ) → x < length d.signals → net names x ≡ n → ⊥
+
+pub record IsNoNode (d : Design) (n : Name) : Type 0 where
+  pub each : (k : ℕ) → IsNetNode d k → node_net d.exprs k ≡ n → ⊥
+
+pub record IsNoClock (d : Design) (n : Name) : Type 0 where
+  pub each : (k : ℕ) → k < length d.domains → clock d k ≡ n → ⊥
+
+signals_gone : (d : Design) (names : List Name) (n : Name) → IsNoSignal d names n → NoneAtSignals (port_nets n) d names (λ x. Unit {0})
+signals_gone d names n h x lt u = called_other n (signal_net d names x) (λ e. h.each x lt (sym (net_name d names x) ∙ e))
+
+clocks_gone : (d : Design) (n : Name) → IsNoClock d n → NoneAtClocks (port_nets n) d (λ k. Unit {0})
+clocks_gone d n h k lt u = called_other n (clock_wire d k) (h.each k lt)
+
+inner_gone : (d : Design) (names : List Name) (n : Name) → IsNoSignal d names n → decl_called n (flat_map (inner_decl d names) (places_from 0 d.signals)) ≡ []
+inner_gone d names n h = none_at_places (decl_called n) (collects_decl_called n) (inner_decl d names) 0 d.signals (λ j p q. inner_other d names n j (h.each j (omega arith)))
+
+nodes_gone : (d : Design) (names : List Name) (n : Name) → IsNoNode d n → decl_called n (flat_map (node_decl d names) (places_from 0 d.exprs)) ≡ []
+nodes_gone d names n h = none_at_places (decl_called n) (collects_decl_called n) (node_decl d names) 0 d.exprs (λ j p q. node_other d names n j (h.each j))
+
+pub net_no_clock : (d : Design) (names : List Name) → NamesFit d names → (x : ℕ) → x < length d.signals → IsNoClock d (net names x)
+net_no_clock d names fit x lt = record { each = λ k p e. net_not_clock d names fit x k lt p (sym e) }
+
+pub net_no_node : (d : Design) (names : List Name) → NamesFit d names → (x : ℕ) → x < length d.signals → IsNoNode d (net names x)
+net_no_node d names fit x lt = record { each = λ k p e. net_not_node d names fit x (nets_before d.exprs k) lt (sym e) }
+
+pub node_no_signal : (d : Design) (names : List Name) → NamesFit d names → (k : ℕ) → IsNoSignal d names (node_net d.exprs k)
+node_no_signal d names fit k = record { each = λ x lt e. net_not_node d names fit x (nets_before d.exprs k) lt e }
+
+pub node_no_clock : (d : Design) → Keeps d → (k : ℕ) → IsNoClock d (node_net d.exprs k)
+node_no_clock d keeps k = record { each = λ j lt e. clock_not_node d keeps j (nets_before d.exprs k) lt e }
+
+pub clock_no_signal : (d : Design) (names : List Name) → NamesFit d names → (k : ℕ) → k < length d.domains → IsNoSignal d names (clock d k)
+clock_no_signal d names fit k lt = record { each = λ x p e. net_not_clock d names fit x k p lt e }
+
+pub clock_no_node : (d : Design) → Keeps d → (k : ℕ) → k < length d.domains → IsNoNode d (clock d k)
+clock_no_node d keeps k lt = record { each = λ j p e. clock_not_node d keeps k (nets_before d.exprs j) lt (sym e) }
+
+-- each signal has one net
+signal_parts : (b : Bool) (x : VNet) (ports inner nodes : List VNet) → ports ≡ cond b (x ∷ []) [] → inner ≡ cond b [] (x ∷ []) → nodes ≡ [] → ports ++ (inner ++ nodes) ≡ x ∷ []
+signal_parts true x ports inner nodes p q r = rw (p, q, r) refl
+signal_parts false x ports inner nodes p q r = rw (p, q, r) refl
+
+pub nets_of_signal : (d : Design) (names : List Name) → Keeps d → NamesFit d names → PortsFit d → (x : ℕ) → x < length d.signals → called (net names x) (all_nets (emitted d names)) ≡ signal_net d names x ∷ []
+nets_of_signal d names keeps fit ports x lt =
+    let n = net names x in
+    let inner = flat_map (inner_decl d names) (places_from 0 d.signals) in
+    let from_ports = ports_signal (port_nets n) (collects_port_nets n) d names keeps ports x
+    (λ y p other. called_other n (signal_net d names y) (λ e. other (net_once d names fit y x p lt (sym (net_name d names y) ∙ e))))
+    (clocks_gone d n (net_no_clock d names fit x lt)) in
+    let from_inner = one_at_places (decl_called n) (collects_decl_called n) (inner_decl d names) x 0 d.signals (omega arith) (omega arith)
+    (λ j p q other. inner_other d names n j (λ e. other (net_once d names fit j x (omega arith) lt e))) in
+    nets_parts d names n
+    ∙ signal_parts (is_port d x) (signal_net d names x) (port_nets n (ports_of d names)) (decl_called n inner) (decl_called n (flat_map (node_decl d names) (places_from 0 d.exprs)))
+    (from_ports ∙ ap (λ t. cond (is_port d x) t []) (called_own n (signal_net d names x) (net_name d names x)))
+    (from_inner ∙ inner_own d names x)
+    (nodes_gone d names n (net_no_node d names fit x lt))
+
+pub nets_of_node : (d : Design) (names : List Name) → Keeps d → NamesFit d names → (k : ℕ) → IsNetNode d k → called (node_net d.exprs k) (all_nets (emitted d names)) ≡ node_wire d k ∷ []
+nets_of_node d names keeps fit k is =
+    let n = node_net d.exprs k in
+    let from_ports = ports_none (port_nets n) (collects_port_nets n) d names keeps (signals_gone d names n (node_no_signal d names fit k)) (clocks_gone d n (node_no_clock d keeps k)) in
+    let from_nodes = one_at_places (decl_called n) (collects_decl_called n) (node_decl d names) k 0 d.exprs (omega arith) (omega (arith, net_node_within d k is))
+    (λ j p q other. node_other d names n j (λ t e. other (node_net_once d j k t is e))) in
+    nets_parts d names n
+    ∙ rw (from_ports, inner_gone d names n (node_no_signal d names fit k)) (from_nodes ∙ node_own d names k is)
+
+pub nets_of_clock : (d : Design) (names : List Name) → Keeps d → NamesFit d names → (k : ℕ) → k < length d.domains → called (clock d k) (all_nets (emitted d names)) ≡ clock_wire d k ∷ []
+nets_of_clock d names keeps fit k lt =
+    let n = clock d k in
+    let from_ports = ports_clock (port_nets n) (collects_port_nets n) d names keeps k lt (signals_gone d names n (clock_no_signal d names fit k lt))
+    (λ j p other. called_other n (clock_wire d j) (λ e. other (clock_once d keeps j k p lt e))) in
+    nets_parts d names n
+    ∙ rw (from_ports, inner_gone d names n (clock_no_signal d names fit k lt), nodes_gone d names n (clock_no_node d keeps k lt)) (first_of_two (called n (clock_wire d k ∷ [])) [] refl ∙ called_own n (clock_wire d k) refl)
+
+pub nets_of_none : (d : Design) (names : List Name) → Keeps d → (n : Name) → IsNoSignal d names n → IsNoNode d n → IsNoClock d n → called n (all_nets (emitted d names)) ≡ []
+nets_of_none d names keeps n signals nodes clocks =
+    let from_ports = ports_none (port_nets n) (collects_port_nets n) d names keeps (signals_gone d names n signals) (clocks_gone d n clocks) in
+    nets_parts d names n
+    ∙ rw (from_ports, inner_gone d names n signals, nodes_gone d names n nodes) refl
