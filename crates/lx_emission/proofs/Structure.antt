@@ -1,6 +1,6 @@
 -- The structure of the module of a design: its ports and nets, and which names they have.
 use Rattle.std.proofs.Common.{◌≡◌, ℕ, zero, suc, ◌<◌, ◌≤◌, ◌+◌, Bool, true, false, not, ◌&&◌, ◌||◌, cond, List, [], ◌∷◌, ◌++◌, length, map, flat_map, refl, sym, ap, ◌∙◌, subst, arith, inl, inr, ◌⊎◌, eqb, eqb-true, eq-eqb, ne_eqb, append_assoc}
-use Rattle.std.specs.Prelude.{Option, Some, None, option_map, slice_get, IsTrue, IfSome, nat_eq, codes}
+use Rattle.std.specs.Prelude.{is_some, Option, Some, None, option_map, slice_get, IsTrue, IfSome, nat_eq, codes}
 use Rattle.std.specs.List.{list_all, list_any, AllByRecursion}
 use Rattle.std.specs.Str.{bytes_eq}
 use Rattle.std.proofs.lemmas.Bool.{and_parts, cases_eq}
@@ -8,7 +8,8 @@ use Rattle.std.proofs.lemmas.List.{append_cancel_right}
 use Rattle.std.proofs.lemmas.Option.{slice_get_within}
 use Rattle.lx_circuit.specs.Circuit as circuit
 use Rattle.lx_vtext.specs.Tree.{Name, VNet, VPort, VDecl, NetDecl}
-use Rattle.lx_vmeaning.specs.Runs.{decl_nets, all_nets, net_named}
+use Rattle.lx_vmeaning.specs.Runs.{decl_nets, all_nets, net_named, sizes}
+use Rattle.lx_vmeaning.specs.Cycle.{is_register}
 use Rattle.lx_fhdl.specs.Designs.{circuit_of, signal_number, domains_from, domain_of}
 use Rattle.lx_fhdl.specs.Keeping.{Keeps, IsDomain, HasResetPath, reset_name, EachOf, is_distinct}
 use Rattle.lx_fhdl.specs.declared.exprs.SigId.{SigId}
@@ -18,12 +19,12 @@ use Rattle.lx_fhdl.specs.declared.design.Domain.{Domain}
 use Rattle.lx_fhdl.specs.declared.design.Design.{Design}
 use Rattle.lx_emission.specs.Naming.{net, node_net, nets_before, clock, NamesFit}
 use Rattle.lx_emission.specs.Nodes.{node_shape}
-use Rattle.lx_emission.specs.Signals.{signal_net}
+use Rattle.lx_emission.specs.Signals.{drive, init_of, shape_of_signal, reset_of_signal, signal_net}
 use Rattle.lx_emission.specs.Emission.{wire, signal_port, reset_port, domain_port, domain_ports, ports_of, is_port, is_net_node, inner_decl, node_decl, decls_of, places_from, emitted}
 use Rattle.lx_emission.specs.Emits.{PortsFit, are_once, none_is_reset}
-use Rattle.lx_emission.proofs.Lists.{is_false, not_true, name_same, name_other, Collects, collects_next, collects_after, collects_map, none_of_two, first_of_two, second_of_two, none_at_places, one_at_places, each_of_two, called, collects_called, collects_decls}
+use Rattle.lx_emission.proofs.Lists.{by_test, is_false, not_true, same_name, name_same, name_other, names_differ, Collects, collects_next, collects_after, collects_map, none_of_two, first_of_two, second_of_two, none_at_places, one_at_places, each_of_two, called, first_net, net_named_is, collects_called, collects_decls}
 use Rattle.lx_emission.proofs.Names.{node_net_once, clock_once, clock_not_node, net_once, net_not_clock, net_not_node}
-use Rattle.lx_emission.proofs.Setting.{IsNetNode}
+use Rattle.lx_emission.proofs.Setting.{IsNetNode, DeclaresNets}
 
 -- ---- the resets of domains
 
@@ -402,3 +403,88 @@ nets_of_none d names keeps n signals nodes clocks =
     let from_ports = ports_none (port_nets n) (collects_port_nets n) d names keeps (signals_gone d names n signals) (clocks_gone d n clocks) in
     nets_parts d names n
     ∙ rw (from_ports, inner_gone d names n signals, nodes_gone d names n nodes) refl
+
+-- ---- how a name is declared
+
+pub net_of_signal : (d : Design) (names : List Name) → Keeps d → NamesFit d names → PortsFit d → (x : ℕ) → x < length d.signals → net_named (net names x) (all_nets (emitted d names)) ≡ Some (signal_net d names x)
+net_of_signal d names keeps fit ports x lt =
+    net_named_is (net names x) (all_nets (emitted d names)) ∙ ap first_net (nets_of_signal d names keeps fit ports x lt)
+
+pub net_of_node : (d : Design) (names : List Name) → Keeps d → NamesFit d names → (k : ℕ) → IsNetNode d k → net_named (node_net d.exprs k) (all_nets (emitted d names)) ≡ Some (wire (node_shape d k).signed (node_shape d k).bits (node_net d.exprs k))
+net_of_node d names keeps fit k is =
+    net_named_is (node_net d.exprs k) (all_nets (emitted d names)) ∙ ap first_net (nets_of_node d names keeps fit k is)
+
+pub net_of_clock : (d : Design) (names : List Name) → Keeps d → NamesFit d names → (k : ℕ) → k < length d.domains → net_named (clock d k) (all_nets (emitted d names)) ≡ Some (wire false 1 (clock d k))
+net_of_clock d names keeps fit k lt =
+    net_named_is (clock d k) (all_nets (emitted d names)) ∙ ap first_net (nets_of_clock d names keeps fit k lt)
+
+pub net_of_none : (d : Design) (names : List Name) → Keeps d → (n : Name) → IsNoSignal d names n → IsNoNode d n → IsNoClock d n → net_named n (all_nets (emitted d names)) ≡ None
+net_of_none d names keeps n signals nodes clocks =
+    net_named_is n (all_nets (emitted d names)) ∙ ap first_net (nets_of_none d names keeps n signals nodes clocks)
+
+pub declares : (d : Design) (names : List Name) → Keeps d → NamesFit d names → PortsFit d → DeclaresNets d names (sizes (emitted d names))
+unfolding signal_net
+declares d names keeps fit ports = record {
+  signals = λ x lt. rw (net_of_signal d names keeps fit ports x lt) refl;
+  nodes = λ k is. rw (net_of_node d names keeps fit k is) refl;
+}
+
+pub is_register_signal : (d : Design) (names : List Name) → Keeps d → NamesFit d names → PortsFit d → (x : ℕ) → x < length d.signals
+    → is_register (emitted d names) (net names x) ≡ is_some (init_of (shape_of_signal d x) (reset_of_signal d x) (drive d x))
+unfolding signal_net
+is_register_signal d names keeps fit ports x lt = rw (net_of_signal d names keeps fit ports x lt) refl
+
+pub is_register_node : (d : Design) (names : List Name) → Keeps d → NamesFit d names → (k : ℕ) → IsNetNode d k → is_register (emitted d names) (node_net d.exprs k) ≡ false
+is_register_node d names keeps fit k is = rw (net_of_node d names keeps fit k is) refl
+
+pub is_register_clock : (d : Design) (names : List Name) → Keeps d → NamesFit d names → (k : ℕ) → k < length d.domains → is_register (emitted d names) (clock d k) ≡ false
+is_register_clock d names keeps fit k lt = rw (net_of_clock d names keeps fit k lt) refl
+
+-- ---- the classes of names
+
+-- a name is a signal's, a node's, a clock's, or nothing's
+pub data Class (d : Design) (names : List Name) (n : Name) : Type 0 where
+  OfSignal : (x : ℕ) → x < length d.signals → n ≡ net names x → Class d names n
+  OfNode : (k : ℕ) → IsNetNode d k → n ≡ node_net d.exprs k → Class d names n
+  OfClock : (k : ℕ) → k < length d.domains → n ≡ clock d k → Class d names n
+  OfNothing : IsNoSignal d names n → IsNoNode d n → IsNoClock d n → Class d names n
+
+-- a number below a bound with a property, or none
+search_below : (P : ℕ → Type 0) → ((j : ℕ) → P j ⊎ (P j → ⊥)) → (n : ℕ) → ((j : ℕ) × (j < n) × P j) ⊎ ((j : ℕ) → j < n → P j → ⊥)
+search_below P test zero = inr (λ j lt p. absurd (omega arith))
+search_below P test (suc n) = elim (test n) [
+  | inl here ↦ inl (n, omega arith, here)
+  | inr gone ↦ elim (search_below P test n) [
+    | inl found ↦ inl (found.0, omega (arith, found.1), found.2)
+    | inr none ↦ inr (λ j lt p. elim (cases_eq j n) [
+      | inl same ↦ gone (subst P same p)
+      | inr other ↦ none j (omega (arith, other)) p
+    ])
+  ]
+]
+
+is_same : (n m : Name) → (n ≡ m) ⊎ (n ≡ m → ⊥)
+is_same n m = by_test (bytes_eq n m) (λ t. inl (same_name n m t)) (λ t. inr (names_differ n m t))
+
+node_here : (d : Design) (n : Name) (k : ℕ) → (IsNetNode d k × (n ≡ node_net d.exprs k)) ⊎ (IsNetNode d k × (n ≡ node_net d.exprs k) → ⊥)
+node_here d n k =
+    by_test (is_net_node (slice_get d.exprs k))
+    (λ t. elim (is_same n (node_net d.exprs k)) [ inl same ↦ inl (net_node_at d k t, same) | inr other ↦ inr (λ p. other p.1) ])
+    (λ t. inr (λ p. let s = net_node_is d k p.0 in cc))
+
+pub name_classes : (d : Design) (names : List Name) (n : Name) → Class d names n
+name_classes d names n =
+    elim (search_below (λ x. n ≡ net names x) (λ x. is_same n (net names x)) (length d.signals)) [
+      | inl found ↦ OfSignal found.0 found.1 found.2
+      | inr no_signal ↦ elim (search_below (λ k. IsNetNode d k × (n ≡ node_net d.exprs k)) (λ k. node_here d n k) (length d.exprs)) [
+        | inl found ↦ OfNode found.0 found.2.0 found.2.1
+        | inr no_node ↦ elim (search_below (λ k. n ≡ clock d k) (λ k. is_same n (clock d k)) (length d.domains)) [
+          | inl found ↦ OfClock found.0 found.1 found.2
+          | inr no_clock ↦
+              OfNothing
+              (record { each = λ x lt e. no_signal x lt (sym e) })
+              (record { each = λ k is e. no_node k (net_node_within d k is) (is, sym e) })
+              (record { each = λ k lt e. no_clock k lt (sym e) })
+        ]
+      ]
+    ]
