@@ -246,3 +246,30 @@ distinct_from_once (x ∷ xs) h =
     by : (b : Bool) (n : Name) → is_once (cond b (x ∷ called n xs) (called n xs)) ≡ true → is_once (called n xs) ≡ true
     by true n t = once_after x (called n xs) t
     by false n t = t
+
+pub none_from_each : {A : Type 0} (P : A → Bool) (xs : List A) → AllByRecursion (λ x. P x ≡ false) xs → list_any P xs ≡ false
+none_from_each P [] h = refl
+none_from_each P (x ∷ xs) h = rw (h.0, none_from_each P xs h.1) refl
+
+-- a fact of a declared net
+abbrev pub OfNet : (VNet → Type 0) → VDecl → Type 0
+OfNet P (NetDecl x) = P x
+OfNet P (MemoryDecl x) = Unit {0}
+
+pub each_decl_net : (P : VNet → Type 0) (ds : List VDecl) → AllByRecursion (OfNet P) ds → AllByRecursion P (decl_nets ds)
+each_decl_net P [] h = tt
+each_decl_net P (NetDecl x ∷ ds) h = (h.0, each_decl_net P ds h.1)
+each_decl_net P (MemoryDecl x ∷ ds) h = each_decl_net P ds h.1
+
+abbrev pub is_some_driver : List Driver → Bool
+is_some_driver [] = false
+is_some_driver (x ∷ xs) = true
+
+-- an input drives its net from outside
+pub input_is : (n : Name) (ps : List VPort) → cycle.is_input n ps ≡ is_some_driver (outside_drivers n ps)
+input_is n [] = refl
+input_is n (p ∷ ps) = by (p.is_input && bytes_eq p.net.name n) (input_is n ps)
+  where
+    by : (b : Bool) → cycle.is_input n ps ≡ is_some_driver (outside_drivers n ps) → (b || cycle.is_input n ps) ≡ is_some_driver (cond b (Outside ∷ outside_drivers n ps) (outside_drivers n ps))
+    by true h = refl
+    by false h = h

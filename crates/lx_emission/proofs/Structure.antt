@@ -4,12 +4,13 @@ use Rattle.std.specs.Prelude.{is_some, Option, Some, None, option_map, slice_get
 use Rattle.std.specs.List.{list_all, list_any, AllByRecursion}
 use Rattle.std.specs.Str.{bytes_eq}
 use Rattle.std.proofs.lemmas.Bool.{and_parts, cases_eq}
-use Rattle.std.proofs.lemmas.List.{append_cancel_right}
+use Rattle.std.proofs.lemmas.List.{append_cancel_right, append-nil}
 use Rattle.std.proofs.lemmas.Option.{slice_get_within}
 use Rattle.lx_circuit.specs.Circuit as circuit
 use Rattle.lx_vtext.specs.Tree.{Name, VNet, VPort, VDecl, NetDecl}
-use Rattle.lx_vmeaning.specs.Runs.{decl_nets, all_nets, net_named, sizes}
-use Rattle.lx_vmeaning.specs.Cycle.{is_register}
+use Rattle.lx_vmeaning.specs.Runs.{decl_nets, decl_memories, all_nets, net_named, sizes, outside_drivers, Driver, Outside}
+use Rattle.lx_vmeaning.specs.Cycle as cycle
+use Rattle.lx_vmeaning.specs.Cycle.{is_register, is_net, is_input, declared_names}
 use Rattle.lx_fhdl.specs.Designs.{circuit_of, signal_number, domains_from, domain_of}
 use Rattle.lx_fhdl.specs.Keeping.{Keeps, IsDomain, HasResetPath, reset_name, EachOf, is_distinct}
 use Rattle.lx_fhdl.specs.declared.exprs.SigId.{SigId}
@@ -20,9 +21,9 @@ use Rattle.lx_fhdl.specs.declared.design.Design.{Design}
 use Rattle.lx_emission.specs.Naming.{net, node_net, nets_before, clock, NamesFit}
 use Rattle.lx_emission.specs.Nodes.{node_shape}
 use Rattle.lx_emission.specs.Signals.{drive, init_of, shape_of_signal, reset_of_signal, signal_net}
-use Rattle.lx_emission.specs.Emission.{wire, signal_port, reset_port, domain_port, domain_ports, ports_of, is_port, is_net_node, inner_decl, node_decl, decls_of, places_from, emitted}
+use Rattle.lx_emission.specs.Emission.{wire, signal_port, reset_port, domain_port, domain_ports, ports_of, is_port, is_given, is_net_node, inner_decl, node_decl, decls_of, places_from, emitted}
 use Rattle.lx_emission.specs.Emits.{PortsFit, are_once, none_is_reset}
-use Rattle.lx_emission.proofs.Lists.{by_test, is_false, not_true, same_name, name_same, name_other, names_differ, Collects, collects_next, collects_after, collects_map, none_of_two, first_of_two, second_of_two, none_at_places, one_at_places, each_of_two, called, first_net, net_named_is, collects_called, collects_decls}
+use Rattle.lx_emission.proofs.Lists.{by_test, is_false, not_true, same_name, name_same, name_other, names_differ, Collects, collects_next, collects_after, collects_map, none_of_two, first_of_two, second_of_two, none_at_places, one_at_places, each_of_two, called, first_net, net_named_is, is_once, distinct_from_once, input_is, collects_outside, collects_memories, collects_called, collects_decls}
 use Rattle.lx_emission.proofs.Names.{node_net_once, clock_once, clock_not_node, net_once, net_not_clock, net_not_node}
 use Rattle.lx_emission.proofs.Setting.{IsNetNode, DeclaresNets}
 
@@ -488,3 +489,69 @@ name_classes d names n =
         ]
       ]
     ]
+
+-- ---- each name is declared once
+
+no_memory_inner : (d : Design) (names : List Name) (x : ℕ) → decl_memories (inner_decl d names x) ≡ []
+unfolding inner_decl
+no_memory_inner d names x = by (is_port d x)
+  where
+    by : (b : Bool) → decl_memories (cond b [] (NetDecl (signal_net d names x) ∷ [])) ≡ []
+    by true = refl
+    by false = refl
+
+no_memory_node : (d : Design) (names : List Name) (k : ℕ) → decl_memories (node_decl d names k) ≡ []
+unfolding node_decl
+no_memory_node d names k = by (is_net_node (slice_get d.exprs k))
+  where
+    by : (b : Bool) → decl_memories (cond b (NetDecl (node_wire d k) ∷ []) []) ≡ []
+    by true = refl
+    by false = refl
+
+pub no_memories : (d : Design) (names : List Name) → decl_memories (emitted d names).decls ≡ []
+unfolding emitted decls_of
+no_memories d names =
+    let inner = flat_map (inner_decl d names) (places_from 0 d.signals) in
+    let nodes = flat_map (node_decl d names) (places_from 0 d.exprs) in
+    collects_memories.joined inner nodes
+    ∙ none_of_two (decl_memories inner) (decl_memories nodes)
+    (none_at_places decl_memories collects_memories (inner_decl d names) 0 d.signals (λ j p q. no_memory_inner d names j))
+    (none_at_places decl_memories collects_memories (node_decl d names) 0 d.exprs (λ j p q. no_memory_node d names j))
+
+one_net : (d : Design) (names : List Name) → Keeps d → NamesFit d names → PortsFit d → (n : Name) → Class d names n → is_once (called n (all_nets (emitted d names))) ≡ true
+one_net d names keeps fit ports n (OfSignal x lt e) = rw (e, nets_of_signal d names keeps fit ports x lt) refl
+one_net d names keeps fit ports n (OfNode k is e) = rw (e, nets_of_node d names keeps fit k is) refl
+one_net d names keeps fit ports n (OfClock k lt e) = rw (e, nets_of_clock d names keeps fit k lt) refl
+one_net d names keeps fit ports n (OfNothing signals nodes clocks) = rw (nets_of_none d names keeps n signals nodes clocks) refl
+
+pub declared_once : (d : Design) (names : List Name) → Keeps d → NamesFit d names → PortsFit d → IsTrue (cycle.is_distinct (declared_names (emitted d names)))
+declared_once d names keeps fit ports =
+    rw (no_memories d names, append-nil (map (λ (x : VNet). x.name) (all_nets (emitted d names))))
+    (distinct_from_once (all_nets (emitted d names)) (λ n. one_net d names keeps fit ports n (name_classes d names n)))
+
+-- ---- what drives nets from outside
+
+pub outside_at_clock : (d : Design) (n : Name) (k : ℕ) → (clock d k ≡ n → ⊥) → outside_drivers n (clock_port d k ∷ []) ≡ []
+outside_at_clock d n k ne = rw (name_other (clock d k) n ne) refl
+
+pub outside_at_signal : (d : Design) (names : List Name) (n : Name) (x : ℕ) → (net names x ≡ n → ⊥) → outside_drivers n (signal_port d names x ∷ []) ≡ []
+unfolding signal_net
+outside_at_signal d names n x ne = rw (name_other (net names x) n ne) (by (is_given (drive d x)))
+  where
+    by : (b : Bool) → cond (b && false) (Outside ∷ []) [] ≡ []
+    by true = refl
+    by false = refl
+
+pub outside_clock : (d : Design) (names : List Name) → Keeps d → NamesFit d names → (k : ℕ) → k < length d.domains → outside_drivers (clock d k) (emitted d names).ports ≡ Outside ∷ []
+unfolding emitted
+outside_clock d names keeps fit k lt =
+    let n = clock d k in
+    ports_clock (outside_drivers n) (collects_outside n) d names keeps k lt
+    (λ x p u. outside_at_signal d names n x (λ e. net_not_clock d names fit x k p lt e))
+    (λ j p other. outside_at_clock d n j (λ e. other (clock_once d keeps j k p lt e)))
+    ∙ rw (name_same n n refl) refl
+
+pub clock_is_input : (d : Design) (names : List Name) → Keeps d → NamesFit d names → (k : ℕ) → k < length d.domains
+    → (is_net (emitted d names) (clock d k) ≡ true) × (is_input (clock d k) (emitted d names).ports ≡ true)
+clock_is_input d names keeps fit k lt =
+    (rw (net_of_clock d names keeps fit k lt) refl, input_is (clock d k) (emitted d names).ports ∙ rw (outside_clock d names keeps fit k lt) refl)
