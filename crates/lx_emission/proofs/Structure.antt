@@ -7,10 +7,11 @@ use Rattle.std.proofs.lemmas.Bool.{and_parts, cases_eq}
 use Rattle.std.proofs.lemmas.List.{append_cancel_right, append-nil}
 use Rattle.std.proofs.lemmas.Option.{slice_get_within}
 use Rattle.lx_circuit.specs.Circuit as circuit
-use Rattle.lx_vtext.specs.Tree.{Name, VNet, VPort, VDecl, NetDecl}
+use Rattle.lx_vtext.specs.Tree.{Name, VExpr, VNet, VPort, VDecl, NetDecl, VAssign, VAlways}
 use Rattle.lx_vmeaning.specs.Runs.{decl_nets, decl_memories, all_nets, net_named, sizes, outside_drivers, Driver, Outside}
 use Rattle.lx_vmeaning.specs.Cycle as cycle
 use Rattle.lx_vmeaning.specs.Cycle.{is_register, is_net, is_input, declared_names}
+use Rattle.lx_fhdl.specs.Below.{ExprId, StmtId}
 use Rattle.lx_fhdl.specs.Designs.{circuit_of, signal_number, domains_from, domain_of}
 use Rattle.lx_fhdl.specs.Keeping.{Keeps, IsDomain, HasResetPath, reset_name, EachOf, is_distinct}
 use Rattle.lx_fhdl.specs.declared.exprs.SigId.{SigId}
@@ -19,11 +20,11 @@ use Rattle.lx_fhdl.specs.declared.design.Signal.{Signal}
 use Rattle.lx_fhdl.specs.declared.design.Domain.{Domain}
 use Rattle.lx_fhdl.specs.declared.design.Design.{Design}
 use Rattle.lx_emission.specs.Naming.{net, node_net, nets_before, clock, NamesFit}
-use Rattle.lx_emission.specs.Nodes.{node_shape}
-use Rattle.lx_emission.specs.Signals.{drive, init_of, shape_of_signal, reset_of_signal, signal_net}
-use Rattle.lx_emission.specs.Emission.{wire, signal_port, reset_port, domain_port, domain_ports, ports_of, is_port, is_given, is_net_node, inner_decl, node_decl, decls_of, places_from, emitted}
+use Rattle.lx_emission.specs.Nodes.{node_shape, operand, node_text}
+use Rattle.lx_emission.specs.Signals.{Drive, Given, Held, Equal, Combined, Clocked, drive, init_of, shape_of_signal, reset_of_signal, reset_text, signal_net, assign_by, signal_assign, combined_body, clocked_body, always_by, signal_always}
+use Rattle.lx_emission.specs.Emission.{wire, signal_port, reset_port, domain_port, domain_ports, ports_of, is_port, is_given, is_net_node, inner_decl, node_decl, node_assign, decls_of, places_from, emitted}
 use Rattle.lx_emission.specs.Emits.{PortsFit, are_once, none_is_reset}
-use Rattle.lx_emission.proofs.Lists.{by_test, is_false, not_true, same_name, name_same, name_other, names_differ, Collects, collects_next, collects_after, collects_map, none_of_two, first_of_two, second_of_two, none_at_places, one_at_places, each_of_two, called, first_net, net_named_is, is_once, distinct_from_once, input_is, collects_outside, collects_memories, collects_called, collects_decls}
+use Rattle.lx_emission.proofs.Lists.{by_test, is_false, not_true, same_name, name_same, name_other, names_differ, Collects, collects_next, collects_after, collects_map, none_of_two, first_of_two, second_of_two, none_at_places, one_at_places, each_of_two, each_at_places, each_mapped, all_from_each, OfNet, each_decl_net, called, first_net, net_named_is, is_once, distinct_from_once, input_is, collects_outside, collects_memories, collects_called, collects_decls}
 use Rattle.lx_emission.proofs.Names.{node_net_once, clock_once, clock_not_node, net_once, net_not_clock, net_not_node}
 use Rattle.lx_emission.proofs.Setting.{IsNetNode, DeclaresNets}
 
@@ -555,3 +556,139 @@ pub clock_is_input : (d : Design) (names : List Name) → Keeps d → NamesFit d
     → (is_net (emitted d names) (clock d k) ≡ true) × (is_input (clock d k) (emitted d names).ports ≡ true)
 clock_is_input d names keeps fit k lt =
     (rw (net_of_clock d names keeps fit k lt) refl, input_is (clock d k) (emitted d names).ports ∙ rw (outside_clock d names keeps fit k lt) refl)
+
+-- ---- what holds of each part of the module
+
+resets_hold : (P : VPort → Type 0) (d : Design) (names : List Name) (y : Domain) → IsDomain d y → ((x : ℕ) → x < length d.signals → P (signal_port d names x)) → AllByRecursion P (reset_port d names y.reset)
+resets_hold P d names y h signals = by y.reset refl
+  where
+    by : (o : Option SigId) → y.reset ≡ o → AllByRecursion P (reset_port d names o)
+    by None e = tt
+    by (Some r) e = (signals r.0 (reset_within d y r h e), tt)
+
+domains_hold : (P : VPort → Type 0) (d : Design) (names : List Name) (k : ℕ) (ys : List Domain) → EachOf (IsDomain d) ys → ((x : ℕ) → x < length d.signals → P (signal_port d names x)) → ((j : ℕ) → k ≤ j → j < k + length ys → P (clock_port d j))
+    → AllByRecursion P (domain_ports d names k ys)
+domains_hold P d names k [] h signals clocks = tt
+domains_hold P d names k (y ∷ ys) h signals clocks =
+    each_of_two P (domain_port d names k y) (domain_ports d names (k + 1) ys)
+    (clocks k (omega arith) (omega arith), resets_hold P d names y h.0 signals)
+    (domains_hold P d names (k + 1) ys h.1 signals (λ j p q. clocks j (omega arith) (omega arith)))
+
+ios_hold : (P : VPort → Type 0) (d : Design) (names : List Name) (is : List SigId) → EachOf (λ (r : SigId). r.0 < length d.signals) is → ((x : ℕ) → x < length d.signals → P (signal_port d names x)) → AllByRecursion P (io_ports d names is)
+ios_hold P d names [] h signals = tt
+ios_hold P d names (r ∷ rs) h signals = (signals r.0 h.0, ios_hold P d names rs h.1 signals)
+
+pub ports_hold : (P : VPort → Type 0) (d : Design) (names : List Name) → Keeps d → ((x : ℕ) → x < length d.signals → P (signal_port d names x)) → ((k : ℕ) → k < length d.domains → P (clock_port d k))
+    → AllByRecursion P (emitted d names).ports
+unfolding emitted ports_of
+ports_hold P d names keeps signals clocks =
+    each_of_two P (domain_ports d names 0 d.domains) (io_ports d names d.ios)
+    (domains_hold P d names 0 d.domains keeps.domains signals (λ j p q. clocks j (omega arith)))
+    (ios_hold P d names d.ios keeps.ios signals)
+
+inner_holds : (P : VDecl → Type 0) (d : Design) (names : List Name) (x : ℕ) → P (NetDecl (signal_net d names x)) → AllByRecursion P (inner_decl d names x)
+unfolding inner_decl
+inner_holds P d names x h = by (is_port d x)
+  where
+    by : (b : Bool) → AllByRecursion P (cond b [] (NetDecl (signal_net d names x) ∷ []))
+    by true = tt
+    by false = (h, tt)
+
+node_decl_holds : (P : VDecl → Type 0) (d : Design) (names : List Name) (k : ℕ) → (IsNetNode d k → P (NetDecl (node_wire d k))) → AllByRecursion P (node_decl d names k)
+unfolding node_decl
+node_decl_holds P d names k h = by (is_net_node (slice_get d.exprs k)) refl
+  where
+    by : (b : Bool) → is_net_node (slice_get d.exprs k) ≡ b → AllByRecursion P (cond b (NetDecl (node_wire d k) ∷ []) [])
+    by true t = (h (net_node_at d k t), tt)
+    by false t = tt
+
+pub decls_hold : (P : VDecl → Type 0) (d : Design) (names : List Name) → ((x : ℕ) → x < length d.signals → P (NetDecl (signal_net d names x))) → ((k : ℕ) → IsNetNode d k → P (NetDecl (node_wire d k)))
+    → AllByRecursion P (emitted d names).decls
+unfolding emitted decls_of
+decls_hold P d names signals nodes =
+    each_of_two P (flat_map (inner_decl d names) (places_from 0 d.signals)) (flat_map (node_decl d names) (places_from 0 d.exprs))
+    (each_at_places P (inner_decl d names) 0 d.signals (λ j p q. inner_holds P d names j (signals j (omega arith))))
+    (each_at_places P (node_decl d names) 0 d.exprs (λ j p q. node_decl_holds P d names j (nodes j)))
+
+pub nets_hold : (P : VNet → Type 0) (d : Design) (names : List Name) → Keeps d → ((x : ℕ) → x < length d.signals → P (signal_net d names x)) → ((k : ℕ) → IsNetNode d k → P (node_wire d k)) → ((k : ℕ) → k < length d.domains → P (clock_wire d k))
+    → AllByRecursion P (all_nets (emitted d names))
+nets_hold P d names keeps signals nodes clocks =
+    each_of_two P (map (λ (p : VPort). p.net) (emitted d names).ports) (decl_nets (emitted d names).decls)
+    (each_mapped P (λ (p : VPort). p.net) (emitted d names).ports (ports_hold (λ p. P p.net) d names keeps signals clocks))
+    (each_decl_net P (emitted d names).decls (decls_hold (OfNet P) d names signals nodes))
+
+pub each_net : (P : VNet → Bool) (d : Design) (names : List Name) → Keeps d → ((x : ℕ) → x < length d.signals → P (signal_net d names x) ≡ true)
+    → ((k : ℕ) → IsNetNode d k → P (wire (node_shape d k).signed (node_shape d k).bits (node_net d.exprs k)) ≡ true) → ((k : ℕ) → k < length d.domains → P (wire false 1 (clock d k)) ≡ true)
+    → IsTrue (list_all P (all_nets (emitted d names)))
+each_net P d names keeps signals nodes clocks = all_from_each P (all_nets (emitted d names)) (nets_hold (λ x. P x ≡ true) d names keeps signals nodes clocks)
+
+-- ---- assigns
+
+abbrev pub node_assignment : Design → List Name → ℕ → VAssign
+node_assignment d names k = record { name = node_net d.exprs k; value = node_text d names k }
+
+abbrev pub signal_assignment : List Name → ℕ → VExpr → VAssign
+signal_assignment names x e = record { name = net names x; value = e }
+
+node_assign_holds : (P : VAssign → Type 0) (d : Design) (names : List Name) (k : ℕ) → (IsNetNode d k → P (node_assignment d names k)) → AllByRecursion P (node_assign d names k)
+unfolding node_assign
+node_assign_holds P d names k h = by (is_net_node (slice_get d.exprs k)) refl
+  where
+    by : (b : Bool) → is_net_node (slice_get d.exprs k) ≡ b → AllByRecursion P (cond b (node_assignment d names k ∷ []) [])
+    by true t = (h (net_node_at d k t), tt)
+    by false t = tt
+
+signal_assign_holds : (P : VAssign → Type 0) (d : Design) (names : List Name) (x : ℕ) → (drive d x ≡ Held → P (signal_assignment names x (reset_text d x))) → ((value : ExprId) → drive d x ≡ Equal value → P (signal_assignment names x (operand d names value.place)))
+    → AllByRecursion P (signal_assign d names x)
+unfolding signal_assign
+signal_assign_holds P d names x held equal = by (drive d x) refl
+  where
+    by : (r : Drive) → drive d x ≡ r → AllByRecursion P (assign_by d names x r)
+    by Given e = tt
+    by Held e = (held e, tt)
+    by (Equal value) e = (equal value e, tt)
+    by (Combined body) e = tt
+    by (Clocked k body) e = tt
+
+pub assigns_hold : (P : VAssign → Type 0) (d : Design) (names : List Name) → ((k : ℕ) → IsNetNode d k → P (record { name = node_net d.exprs k; value = node_text d names k }))
+    → ((x : ℕ) → x < length d.signals → drive d x ≡ Held → P (record { name = net names x; value = reset_text d x }))
+    → ((x : ℕ) (value : ExprId) → x < length d.signals → drive d x ≡ Equal value → P (record { name = net names x; value = operand d names value.place }))
+    → AllByRecursion P (emitted d names).assigns
+unfolding emitted
+assigns_hold P d names nodes held equal =
+    each_of_two P (flat_map (node_assign d names) (places_from 0 d.exprs)) (flat_map (signal_assign d names) (places_from 0 d.signals))
+    (each_at_places P (node_assign d names) 0 d.exprs (λ j p q. node_assign_holds P d names j (nodes j)))
+    (each_at_places P (signal_assign d names) 0 d.signals (λ j p q. signal_assign_holds P d names j (held j (omega arith)) (λ value e. equal j value (omega arith) e)))
+
+pub each_assign : (P : VAssign → Bool) (d : Design) (names : List Name) → ((k : ℕ) → IsNetNode d k → P (record { name = node_net d.exprs k; value = node_text d names k }) ≡ true)
+    → ((x : ℕ) → x < length d.signals → drive d x ≡ Held → P (record { name = net names x; value = reset_text d x }) ≡ true)
+    → ((x : ℕ) (value : ExprId) → x < length d.signals → drive d x ≡ Equal value → P (record { name = net names x; value = operand d names value.place }) ≡ true)
+    → IsTrue (list_all P (emitted d names).assigns)
+each_assign P d names nodes held equal = all_from_each P (emitted d names).assigns (assigns_hold (λ a. P a ≡ true) d names nodes held equal)
+
+-- ---- blocks
+
+signal_always_holds : (P : VAlways → Type 0) (d : Design) (names : List Name) (x : ℕ) → ((body : List StmtId) → drive d x ≡ Combined body → P (record { clock = None; body = combined_body d names x body }))
+    → ((k : ℕ) (body : List StmtId) → drive d x ≡ Clocked k body → P (record { clock = Some (clock d k); body = clocked_body d names x k body })) → AllByRecursion P (signal_always d names x)
+unfolding signal_always
+signal_always_holds P d names x combined clocked = by (drive d x) refl
+  where
+    by : (r : Drive) → drive d x ≡ r → AllByRecursion P (always_by d names x r)
+    by Given e = tt
+    by Held e = tt
+    by (Equal value) e = tt
+    by (Combined body) e = (combined body e, tt)
+    by (Clocked k body) e = (clocked k body e, tt)
+
+pub blocks_hold : (P : VAlways → Type 0) (d : Design) (names : List Name) → ((x : ℕ) (body : List StmtId) → x < length d.signals → drive d x ≡ Combined body → P (record { clock = None; body = combined_body d names x body }))
+    → ((x k : ℕ) (body : List StmtId) → x < length d.signals → drive d x ≡ Clocked k body → P (record { clock = Some (clock d k); body = clocked_body d names x k body }))
+    → AllByRecursion P (emitted d names).always
+unfolding emitted
+blocks_hold P d names combined clocked =
+    each_at_places P (signal_always d names) 0 d.signals
+    (λ j p q. signal_always_holds P d names j (λ body e. combined j body (omega arith) e) (λ k body e. clocked j k body (omega arith) e))
+
+pub each_always : (P : VAlways → Bool) (d : Design) (names : List Name) → ((x : ℕ) (body : List StmtId) → x < length d.signals → drive d x ≡ Combined body → P (record { clock = None; body = combined_body d names x body }) ≡ true)
+    → ((x k : ℕ) (body : List StmtId) → x < length d.signals → drive d x ≡ Clocked k body → P (record { clock = Some (clock d k); body = clocked_body d names x k body }) ≡ true)
+    → IsTrue (list_all P (emitted d names).always)
+each_always P d names combined clocked = all_from_each P (emitted d names).always (blocks_hold (λ a. P a ≡ true) d names combined clocked)
