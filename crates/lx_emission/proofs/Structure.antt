@@ -6,11 +6,12 @@ use Rattle.std.specs.Str.{bytes_eq}
 use Rattle.std.proofs.lemmas.Bool.{and_parts, cases_eq}
 use Rattle.std.proofs.lemmas.List.{append_cancel_right, append-nil}
 use Rattle.std.proofs.lemmas.Option.{slice_get_within}
+use Rattle.lx_circuit.specs.Statements.{drives_block}
 use Rattle.lx_circuit.specs.Circuit as circuit
 use Rattle.lx_vtext.specs.Tree.{Name, VExpr, VNet, VPort, VDecl, NetDecl, VAssign, VAlways}
 use Rattle.lx_vmeaning.specs.Runs.{decl_nets, decl_memories, all_nets, net_named, sizes, outside_drivers, Driver, Outside}
 use Rattle.lx_vmeaning.specs.Cycle as cycle
-use Rattle.lx_vmeaning.specs.Cycle.{is_register, is_net, is_input, declared_names}
+use Rattle.lx_vmeaning.specs.Cycle.{is_register, is_net, is_input, is_clock, names_clock, declared_names}
 use Rattle.lx_fhdl.specs.Below.{ExprId, StmtId}
 use Rattle.lx_fhdl.specs.Designs.{circuit_of, signal_number, domains_from, domain_of}
 use Rattle.lx_fhdl.specs.Keeping.{Keeps, IsDomain, HasResetPath, reset_name, EachOf, is_distinct}
@@ -21,12 +22,12 @@ use Rattle.lx_fhdl.specs.declared.design.Domain.{Domain}
 use Rattle.lx_fhdl.specs.declared.design.Design.{Design}
 use Rattle.lx_emission.specs.Naming.{net, node_net, nets_before, clock, NamesFit}
 use Rattle.lx_emission.specs.Nodes.{node_shape, operand, node_text}
-use Rattle.lx_emission.specs.Signals.{Drive, Given, Held, Equal, Combined, Clocked, drive, init_of, shape_of_signal, reset_of_signal, reset_text, signal_net, assign_by, signal_assign, combined_body, clocked_body, always_by, signal_always}
+use Rattle.lx_emission.specs.Signals.{Drive, Given, Held, Equal, Combined, Clocked, own, single, combined, drive_by, drive, init_of, shape_of_signal, reset_of_signal, reset_text, signal_net, assign_by, signal_assign, combined_body, clocked_body, always_by, signal_always}
 use Rattle.lx_emission.specs.Emission.{wire, signal_port, reset_port, domain_port, domain_ports, ports_of, is_port, is_given, is_net_node, inner_decl, node_decl, node_assign, decls_of, places_from, emitted}
 use Rattle.lx_emission.specs.Emits.{PortsFit, are_once, none_is_reset}
-use Rattle.lx_emission.proofs.Lists.{by_test, is_false, not_true, same_name, name_same, name_other, names_differ, Collects, collects_next, collects_after, collects_map, none_of_two, first_of_two, second_of_two, none_at_places, one_at_places, each_of_two, each_at_places, each_mapped, all_from_each, OfNet, each_decl_net, called, first_net, net_named_is, is_once, distinct_from_once, input_is, collects_outside, collects_memories, collects_called, collects_decls}
+use Rattle.lx_emission.proofs.Lists.{by_test, is_false, not_true, same_name, name_same, name_other, names_differ, Collects, collects_next, collects_after, collects_map, none_of_two, first_of_two, second_of_two, none_at_places, one_at_places, each_of_two, each_at_places, each_mapped, all_from_each, none_from_each, OfNet, each_decl_net, called, first_net, net_named_is, is_once, distinct_from_once, input_is, collects_outside, collects_memories, collects_called, collects_decls}
 use Rattle.lx_emission.proofs.Names.{node_net_once, clock_once, clock_not_node, net_once, net_not_clock, net_not_node}
-use Rattle.lx_emission.proofs.Setting.{IsNetNode, DeclaresNets}
+use Rattle.lx_emission.proofs.Setting.{IsNetNode, DeclaresNets, LetsRead}
 
 -- ---- the resets of domains
 
@@ -692,3 +693,64 @@ pub each_always : (P : VAlways → Bool) (d : Design) (names : List Name) → ((
     → ((x k : ℕ) (body : List StmtId) → x < length d.signals → drive d x ≡ Clocked k body → P (record { clock = Some (clock d k); body = clocked_body d names x k body }) ≡ true)
     → IsTrue (list_all P (emitted d names).always)
 each_always P d names combined clocked = all_from_each P (emitted d names).always (blocks_hold (λ a. P a ≡ true) d names combined clocked)
+
+-- ---- what may be read
+
+sync_within : (x k n : ℕ) (ds : List circuit.Domain) (other : circuit.Role) → (other ≡ circuit.Sync n → ⊥) → circuit.sync_role x k ds other ≡ circuit.Sync n → n < k + length ds
+sync_within x k n [] other ne e = absurd (ne e)
+sync_within x k n (y ∷ ys) other ne e = by (drives_block x y.stmts) e (λ t. sync_within x (k + 1) n ys other ne t)
+  where
+    by : (b : Bool) → cond b (circuit.Sync k) (circuit.sync_role x (k + 1) ys other) ≡ circuit.Sync n → (circuit.sync_role x (k + 1) ys other ≡ circuit.Sync n → n < k + 1 + length ys) → n < k + suc (length ys)
+    by true t rest =
+        let same : k ≡ n = cc in
+        omega arith
+    by false t rest = let within = rest t in omega arith
+
+idle_other : (c : circuit.Circuit) (x n : ℕ) → circuit.idle_role c x ≡ circuit.Sync n → ⊥
+idle_other c x n e = by (circuit.is_among x c.ios || circuit.is_some_reset x c.domains) e
+  where
+    by : (b : Bool) → cond b circuit.Input circuit.Undriven ≡ circuit.Sync n → ⊥
+    by true t = cc
+    by false t = cc
+
+domains-length : (d : Design) (k : ℕ) (ys : List Domain) → length (domains_from d k ys) ≡ length ys
+domains-length d k [] = refl
+domains-length d k (y ∷ ys) = ap suc (domains-length d (k + 1) ys)
+
+-- the domain that drives a signal is one of the design
+pub role_within : (d : Design) (x n : ℕ) → circuit.role (circuit_of d) x ≡ circuit.Sync n → n < length d.domains
+unfolding circuit_of
+role_within d x n e = by (drives_block x (circuit_of d).comb) e
+  where
+    by : (b : Bool) → cond b circuit.Comb (circuit.sync_role x 0 (domains_from d 0 d.domains) (circuit.idle_role (circuit_of d) x)) ≡ circuit.Sync n → n < length d.domains
+    by true t = absurd cc
+    by false t =
+        let within = sync_within x 0 n (domains_from d 0 d.domains) (circuit.idle_role (circuit_of d) x) (idle_other (circuit_of d) x n) t in
+        omega (arith, within, domains-length d 0 d.domains)
+
+drive_clocked : (d : Design) (x n : ℕ) (body : List StmtId) (r : circuit.Role) → drive_by d x r ≡ Clocked n body → r ≡ circuit.Sync n
+drive_clocked d x n body circuit.Input e = absurd cc
+drive_clocked d x n body circuit.Undriven e = absurd cc
+drive_clocked d x n body circuit.Comb e = absurd (by (single d (own d x d.comb)) e)
+  where
+    by : (o : Option ExprId) → combined (own d x d.comb) o ≡ Clocked n body → ⊥
+    by None t = cc
+    by (Some value) t = cc
+drive_clocked d x n body (circuit.Sync k) e = let same : k ≡ n = cc in ap circuit.Sync same
+
+pub clocked_within : (d : Design) (x n : ℕ) (body : List StmtId) → drive d x ≡ Clocked n body → n < length d.domains
+unfolding drive
+clocked_within d x n body e = role_within d x n (drive_clocked d x n body (circuit.role (circuit_of d) x) e)
+
+-- a name that is no clock of the design is no clock of the module
+pub not_clock : (d : Design) (names : List Name) (n : Name) → IsNoClock d n → is_clock (emitted d names) n ≡ false
+not_clock d names n h =
+    none_from_each (λ (a : VAlways). names_clock n a.clock) (emitted d names).always
+    (blocks_hold (λ a. names_clock n a.clock ≡ false) d names (λ x body lt e. refl) (λ x k body lt e. name_other (clock d k) n (h.each k (clocked_within d x k body e))))
+
+pub lets_read : (d : Design) (names : List Name) → Keeps d → NamesFit d names → PortsFit d → LetsRead d names (emitted d names)
+lets_read d names keeps fit ports = record {
+  declares = declares d names keeps fit ports;
+  signals = λ x lt. rw (net_of_signal d names keeps fit ports x lt, not_clock d names (net names x) (net_no_clock d names fit x lt)) refl;
+  nodes = λ k is. rw (net_of_node d names keeps fit k is, not_clock d names (node_net d.exprs k) (node_no_clock d keeps k)) refl;
+}
