@@ -1,3 +1,4 @@
+pub mod Drivers
 pub mod Lists
 pub mod Names
 pub mod Setting
