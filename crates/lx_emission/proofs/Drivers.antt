@@ -1,14 +1,13 @@
 -- What drives each net of the module of a design.
-use Rattle.std.proofs.Common.{◌≡◌, ℕ, ◌<◌, ◌≤◌, ◌+◌, Bool, true, false, not, ◌&&◌, ◌||◌, cond, List, [], ◌∷◌, ◌++◌, length, flat_map, refl, sym, ap, ◌∙◌, subst, arith}
+use Rattle.std.proofs.Common.{◌≡◌, ℕ, ◌<◌, ◌+◌, Bool, true, false, ◌&&◌, ◌||◌, cond, List, [], ◌∷◌, ◌++◌, length, flat_map, refl, ap, ◌∙◌, arith}
 use Rattle.std.specs.Prelude.{Option, Some, None, slice_get}
-use Rattle.std.specs.Str.{bytes_eq}
 use Rattle.std.proofs.lemmas.List.{append-nil}
 use Rattle.lx_circuit.specs.Statements.{drives_block}
 use Rattle.lx_circuit.specs.Circuit as circuit
-use Rattle.lx_vtext.specs.Tree.{Name, VAssign, VAlways}
-use Rattle.lx_vmeaning.specs.Runs.{outside_drivers, assign_drivers, block_drivers, sets_block, drivers}
+use Rattle.lx_vtext.specs.Tree.{Name}
+use Rattle.lx_vmeaning.specs.Runs.{outside_drivers, assign_drivers, block_drivers, drivers}
 use Rattle.lx_vmeaning.specs.Runs as runs
-use Rattle.lx_fhdl.specs.Below.{ExprId, StmtId}
+use Rattle.lx_fhdl.specs.Below.{ExprId}
 use Rattle.lx_fhdl.specs.Designs.{circuit_of}
 use Rattle.lx_fhdl.specs.Keeping.{Keeps}
 use Rattle.lx_fhdl.specs.declared.design.Domain.{Domain}
@@ -16,9 +15,9 @@ use Rattle.lx_fhdl.specs.declared.design.Design.{Design}
 use Rattle.lx_emission.specs.Naming.{net, node_net, clock, NamesFit}
 use Rattle.lx_emission.specs.Nodes.{operand, node_text}
 use Rattle.lx_emission.specs.Signals.{Drive, Given, Held, Equal, Combined, Clocked, own, single, combined, drive_by, drive, reset_text, signal_net, assign_by, signal_assign, combined_body, clocked_body, always_by, signal_always}
-use Rattle.lx_emission.specs.Emission.{places_from, signal_port, is_given, is_port, is_net_node, node_assign, ports_of, emitted}
+use Rattle.lx_emission.specs.Emission.{places_from, signal_port, is_given, is_port, is_net_node, node_assign, emitted}
 use Rattle.lx_emission.specs.Emits.{PortsFit}
-use Rattle.lx_emission.proofs.Lists.{name_same, name_other, second_of_two, first_of_two, none_of_two, none_at_places, one_at_places, collects_outside, collects_assigns, collects_blocks}
+use Rattle.lx_emission.proofs.Lists.{name_same, name_other, second_of_two, none_at_places, one_at_places, collects_outside, collects_assigns, collects_blocks}
 use Rattle.lx_emission.proofs.Names.{node_net_once, net_once}
 use Rattle.lx_emission.proofs.Setting.{IsNetNode, SetsAlone, BlocksSetAlone, driver_by}
 use Rattle.lx_emission.proofs.Structure.{IsNoSignal, IsNoNode, IsNoClock, net_no_clock, net_no_node, node_no_signal, node_no_clock, clock_no_signal, clock_no_node, net_node_at, net_node_is, net_node_within, node_assignment, ports_signal, ports_none, outside_at_clock, outside_at_signal, outside_clock}

@@ -1,8 +1,7 @@
 -- The names of nets: no two of them are alike.
-use Rattle.std.proofs.Common.{◌≡◌, ℕ, zero, suc, ◌<◌, ◌≤◌, ◌+◌, Bool, true, false, not, ◌&&◌, ◌||◌, cond, List, [], ◌∷◌, ◌++◌, length, get_or, map, refl, sym, ap, ◌∙◌, subst, arith, inl, inr, eqb, leb}
-use Rattle.std.specs.Prelude.{Option, Some, None, slice_get, IsTrue, codes}
-use Rattle.std.specs.List.{list_all, list_any}
-use Rattle.std.specs.Str.{bytes_eq}
+use Rattle.std.proofs.Common.{◌≡◌, ℕ, zero, suc, ◌<◌, Bool, true, false, not, cond, List, [], ◌∷◌, length, map, refl, sym, ap, ◌∙◌, subst, arith, inl, inr}
+use Rattle.std.specs.Prelude.{Some, slice_get, codes}
+use Rattle.std.specs.List.{list_all}
 use Rattle.std.proofs.lemmas.Bool.{and_parts, cases_lt}
 use Rattle.std.proofs.lemmas.List.{append_cancel_right}
 use Rattle.std.proofs.lemmas.Option.{slice_get-get_or, slice_get-map}
@@ -10,7 +9,7 @@ use Rattle.lx_vtext.specs.Tree.{Name}
 use Rattle.lx_vtext.specs.Printed.{number_text}
 use Rattle.lx_vtext.specs.Reading.{number_value}
 use Rattle.lx_vtext.proofs.Pieces.{number_back}
-use Rattle.lx_fhdl.specs.Keeping.{Keeps, IsDomain, EachOf, is_distinct, is_identifier, is_spelled, is_first, is_later}
+use Rattle.lx_fhdl.specs.Keeping.{Keeps, IsDomain, EachOf, is_spelled, is_first, is_later}
 use Rattle.lx_tables.specs.PythonWords.{is_python_word}
 use Rattle.lx_fhdl.proofs.Arena.{node_there}
 use Rattle.lx_fhdl.specs.declared.exprs.Expr.{Expr}
@@ -18,7 +17,7 @@ use Rattle.lx_fhdl.specs.declared.design.Domain.{Domain}
 use Rattle.lx_fhdl.specs.declared.design.Design.{Design}
 use Rattle.lx_emission.specs.Naming.{net, has_net, nets_before, node_name, node_net, clock_name, clock, NamesFit}
 use Rattle.lx_emission.proofs.Setting.{IsNetNode}
-use Rattle.lx_emission.proofs.Lists.{one_place, is_there, same_name, name_same, name_other, names_differ}
+use Rattle.lx_emission.proofs.Lists.{one_place, is_there}
 
 -- ---- nodes
 
@@ -28,7 +27,8 @@ node_name_once a b e =
     let texts : number_text a ≡ number_text b = cc in
     sym (number_back a).0 ∙ ap number_value texts ∙ (number_back b).0
 
-before_less : (xs : List Expr) (j k : ℕ) (x : Expr) → slice_get xs j ≡ Some x → has_net x ≡ true → j < k → nets_before xs j < nets_before xs k
+-- fewer nodes with nets stand before such a node than before a later place
+pub before_less : (xs : List Expr) (j k : ℕ) (x : Expr) → slice_get xs j ≡ Some x → has_net x ≡ true → j < k → nets_before xs j < nets_before xs k
 unfolding nets_before
 before_less [] j k x e h lt = absurd cc
 before_less (y ∷ ys) zero zero x e h lt = absurd (omega arith)

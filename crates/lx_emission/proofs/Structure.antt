@@ -1,5 +1,5 @@
 -- The structure of the module of a design: its ports and nets, and which names they have.
-use Rattle.std.proofs.Common.{◌≡◌, ℕ, zero, suc, ◌<◌, ◌≤◌, ◌+◌, Bool, true, false, not, ◌&&◌, ◌||◌, cond, List, [], ◌∷◌, ◌++◌, length, map, flat_map, refl, sym, ap, ◌∙◌, subst, arith, inl, inr, ◌⊎◌, eqb, eqb-true, eq-eqb, ne_eqb, append_assoc}
+use Rattle.std.proofs.Common.{◌≡◌, ℕ, zero, suc, ◌<◌, ◌≤◌, ◌+◌, Bool, true, false, not, ◌&&◌, ◌||◌, cond, List, [], ◌∷◌, ◌++◌, length, map, flat_map, refl, sym, ap, ◌∙◌, subst, arith, inl, inr, ◌⊎◌, eqb-true, eq-eqb, ne_eqb, append_assoc}
 use Rattle.std.specs.Prelude.{is_some, Option, Some, None, option_map, slice_get, IsTrue, IfSome, nat_eq, codes}
 use Rattle.std.specs.List.{list_all, list_any, AllByRecursion}
 use Rattle.std.specs.Str.{bytes_eq}
@@ -9,11 +9,11 @@ use Rattle.std.proofs.lemmas.Option.{slice_get_within}
 use Rattle.lx_circuit.specs.Statements.{drives_block}
 use Rattle.lx_circuit.specs.Circuit as circuit
 use Rattle.lx_vtext.specs.Tree.{Name, VExpr, VNet, VPort, VDecl, NetDecl, VAssign, VAlways}
-use Rattle.lx_vmeaning.specs.Runs.{decl_nets, decl_memories, all_nets, net_named, sizes, outside_drivers, Driver, Outside}
+use Rattle.lx_vmeaning.specs.Runs.{decl_nets, decl_memories, all_nets, net_named, sizes, outside_drivers, Outside}
 use Rattle.lx_vmeaning.specs.Cycle as cycle
 use Rattle.lx_vmeaning.specs.Cycle.{is_register, is_net, is_input, is_clock, names_clock, declared_names}
 use Rattle.lx_fhdl.specs.Below.{ExprId, StmtId}
-use Rattle.lx_fhdl.specs.Designs.{circuit_of, signal_number, domains_from, domain_of}
+use Rattle.lx_fhdl.specs.Designs.{circuit_of, signal_number, domains_from}
 use Rattle.lx_fhdl.specs.Keeping.{Keeps, IsDomain, HasResetPath, reset_name, EachOf, is_distinct}
 use Rattle.lx_fhdl.specs.declared.exprs.SigId.{SigId}
 use Rattle.lx_fhdl.specs.declared.exprs.Expr.{Expr}
