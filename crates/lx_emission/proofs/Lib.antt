@@ -1,11 +1,17 @@
 pub mod BlockLawful
 pub mod BlockReads
 pub mod Blocks
+pub mod Drivers
 pub mod Drives
 pub mod Fitting
 pub mod Lawful
+pub mod Lists
+pub mod Loop
+pub mod Names
 pub mod Operands
 pub mod Pieces
+pub mod Ports
 pub mod Reading
 pub mod Runs
 pub mod Setting
+pub mod Structure
