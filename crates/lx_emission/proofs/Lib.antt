@@ -15,3 +15,4 @@ pub mod Reading
 pub mod Runs
 pub mod Setting
 pub mod Structure
+pub mod Whole
