@@ -35,7 +35,7 @@ from_same c m names k h f [] (b ∷ bs) state inputs v v_state v_inputs w fits s
 from_same c m names k h f (a ∷ as_) [] state inputs v v_state v_inputs w fits sf i s ss t p q x lt = absurd ss
 from_same c m names k h f (a ∷ as_) (b ∷ bs) state inputs v v_state v_inputs w fits sf i s ss t p q x lt =
     let same = settled_same c m names h f state a.inputs p.0 v_state b.inputs q.0 fits sf.0 s ss.0.inputs p.1 q.1 in
-    let next = f.steps state a.inputs p.0 v_state q.0 a.rises b.rises fits sf.0 s p.1 same ss.0.rises in
+    let next = f.steps state a.inputs p.0 v_state q.0 b.inputs a.rises b.rises fits sf.0 s ss.0.inputs p.1 q.1 same ss.0.rises in
     from_same c m names k h f as_ bs (next_state c state p.0 a.rises) inputs v (v_next m v_state q.0 b.rises) v_inputs w (next_state_fits c k state p.0 a.rises fits) sf.1 i next ss.1 t p.2 q.2 x lt
 
 pub agrees : (c : Circuit) (m : VModule) (names : Naming) → KeepsShapes c → HasOrder c → HasCycleMeaning m → Follows c m names → Agrees c m names

@@ -27,8 +27,9 @@ Settles c m names =
 -- and the states after a step are the same
 abbrev pub Steps : Circuit → VModule → Naming → Type 0
 Steps c m names =
-    (state inputs v : Values) (v_state w : Valuation) (rises : ℕ → Bool) (v_rises : Name → Bool)
-    → StateFits c state → InputsFit c inputs → SameState c names state v_state → IsSettled c state inputs v → SameValues c names v w
+    (state inputs v : Values) (v_state w : Valuation) (v_inputs : Name → ℕ) (rises : ℕ → Bool) (v_rises : Name → Bool)
+    → StateFits c state → InputsFit c inputs → SameState c names state v_state → SameInputs c names inputs v_inputs
+    → IsSettled c state inputs v → IsVSettled m v_state v_inputs w → SameValues c names v w
     → ((d : ℕ) → d < length c.domains → v_rises (names.clock d) ≡ rises d)
     → SameState c names (next_state c state v rises) (v_next m v_state w v_rises)
 

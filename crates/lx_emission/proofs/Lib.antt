@@ -4,6 +4,8 @@ pub mod Blocks
 pub mod Drivers
 pub mod Drives
 pub mod Fitting
+pub mod Follow
+pub mod Law
 pub mod Lawful
 pub mod Lists
 pub mod Loop
@@ -14,5 +16,7 @@ pub mod Ports
 pub mod Reading
 pub mod Runs
 pub mod Setting
+pub mod Steps
 pub mod Structure
 pub mod Whole
+pub mod Within

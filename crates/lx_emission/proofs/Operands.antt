@@ -32,13 +32,13 @@ abbrev pub ExactTerm : Valuation → Shapes → Values → Term → Meaning → 
 ExactTerm w h v t e = Exact w (shape_of h t).bits (shape_of h t).signed (value_of h v t) e
 
 -- a net that has a shape and the pattern of a value
-net_exact : (w : Valuation) (s : Sizes) (n : Name) (a : Shape) (z : ℤ) → s n ≡ declared a.bits a.signed → IsSmall a → Fits a z → w.nets n ≡ modulo z (2 ^ a.bits) → Exact w a.bits a.signed z (meaning s (Net n))
+pub net_exact : (w : Valuation) (s : Sizes) (n : Name) (a : Shape) (z : ℤ) → s n ≡ declared a.bits a.signed → IsSmall a → Fits a z → w.nets n ≡ modulo z (2 ^ a.bits) → Exact w a.bits a.signed z (meaning s (Net n))
 net_exact w s n a z e small fit p =
     let P : Declared → Type 0 = λ x. Exact w a.bits a.signed z (verilog.net x n) in
     subst P (sym e) (exact_leaf w a.bits a.bits a.signed z (λ u. u.nets n) refl small.some fit p)
 
 -- a constant's literal
-literal_exact : (w : Valuation) (value : ℤ) (bits : ℕ) (signed : Bool) → 1 ≤ bits → Exact w bits signed (wrapped (shape bits signed) value) (verilog.literal bits signed (modulo value (2 ^ bits)))
+pub literal_exact : (w : Valuation) (value : ℤ) (bits : ℕ) (signed : Bool) → 1 ≤ bits → Exact w bits signed (wrapped (shape bits signed) value) (verilog.literal bits signed (modulo value (2 ^ bits)))
 literal_exact w value bits signed h =
     exact_leaf w bits bits signed (wrapped (shape bits signed) value) (λ u. modulo value (2 ^ bits)) refl h (FitsBits-wrap_bits bits signed value h) (sym (modulo-wrap_bits bits signed value))
 

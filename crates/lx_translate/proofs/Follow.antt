@@ -250,7 +250,7 @@ follows f hs hl meaning = record {
       let fits = settled_fits (circuit_of f) (keeps_shapes f hs) state inputs v state_fits inputs_fit settled in
       let same = lines_same f state inputs v v_state v_inputs one.values 0 f.lines hs hl hl fits settled one.settled (all_nodes 0 f.lines) (all_targets f.signals 0 f.lines hl) (inputs_same f state inputs v v_state v_inputs one.values hs hl settled one.settled same_inputs) in
       (one.values, one.settled, record { each = λ x lt. signal_same f v one.values x hs lt same });
-  steps = λ state inputs v v_state w rises v_rises state_fits inputs_fit same_state settled same_values edges. record { each = λ x d e. absurd (no_sync f x d e) };
+  steps = λ state inputs v v_state w v_inputs rises v_rises state_fits inputs_fit same_state same_inputs settled v_settled same_values edges. record { each = λ x d e. absurd (no_sync f x d e) };
   starts = record { each = λ x d e. absurd (no_sync f x d e) };
 }
   where

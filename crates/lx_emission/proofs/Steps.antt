@@ -1,0 +1,204 @@
+-- The states after a step are the same, and so are the first ones.
+use Rattle.std.proofs.Common.{◌≡◌, ℕ, ℤ, zero, suc, ◌+◌, ◌%◌, ◌^◌, ◌≤◌, ◌<◌, Bool, true, false, cond, ◌&&◌, not, max, List, [], ◌∷◌, map, length, Option, Some, None, refl, sym, ap, subst, ◌∙◌, arith}
+use Rattle.std.specs.Prelude.{slice_get, slice_index_or, option_map}
+use Rattle.std.proofs.lemmas.Nat.{pow_pos}
+use Rattle.lx_num.specs.Ints.{modulo, wrapped, shape}
+use Rattle.lx_num.proofs.Ints.{modulo-below}
+use Rattle.lx_num.proofs.Ranges.{modulo-wrap_bits}
+use Rattle.lx_circuit.specs.Values.{Values, is_zero}
+use Rattle.lx_circuit.specs.Statements.{after_pieces, taken_block, result}
+use Rattle.lx_circuit.specs.Circuit as circuit
+use Rattle.lx_circuit.specs.Circuit.{Role, Sync, role, made, by_role, IsSettled, InputsFit, StateFits, next_state, first_state, risen, is_reset, domain_at, no_domain}
+use Rattle.lx_circuit.proofs.Fitting.{settled_fits}
+use Rattle.lx_vtext.specs.Tree.{Name, Net, Whole, Assign, When, NoElse, VBlock, EndBlock, InBlock}
+use Rattle.lx_vmeaning.specs.Meaning.{Sizes, Valuation, meaning, assigned, holds}
+use Rattle.lx_vmeaning.specs.Runs as runs
+use Rattle.lx_vmeaning.proofs.Views as v_views
+use Rattle.lx_vmeaning.specs.Runs.{IsVSettled, driver, first_driver, first_net, sizes, run_block, v_next, v_first, next_net}
+use Rattle.lx_agree.specs.Agreement.{pattern, SameInputs}
+use Rattle.lx_agree.specs.Following.{SameState, SameValues, Steps, Follows}
+use Rattle.lx_fhdl.specs.Below.{StmtId, all_stmts_below}
+use Rattle.lx_fhdl.specs.Designs.{term, shapes, signal_number, domain_of, domains_from, circuit_of, block, stmts_of}
+use Rattle.lx_fhdl.specs.Keeping.{Keeps}
+use Rattle.lx_fhdl.specs.declared.exprs.SigId.{SigId}
+use Rattle.lx_fhdl.specs.declared.design.Domain.{Domain}
+use Rattle.lx_fhdl.specs.declared.design.Design.{Design}
+use Rattle.lx_fhdl.proofs.Designs as design
+use Rattle.lx_fhdl.proofs.Arena.{node_there}
+use Rattle.lx_emission.specs.Naming.{net, node_net, clock, naming, NamesFit}
+use Rattle.lx_emission.specs.Signals.{Drive, Clocked, drive, drive_by, own, reset_of_signal, reset_text, domain_reset, reset_block, clocked_body, literal_of, init_of, shape_of_signal, signal_net}
+use Rattle.lx_emission.specs.Emission.{emitted}
+use Rattle.lx_emission.specs.Emits.{CanBeEmitted}
+use Rattle.lx_emission.proofs.Setting.{HasPatterns, SignalsFit, driver_by}
+use Rattle.lx_emission.proofs.Structure.{declares, clocked_within, net_of_signal}
+use Rattle.lx_emission.proofs.Fitting.{signal_bits}
+use Rattle.lx_emission.proofs.Operands.{literal_exact, net_exact, cut_exact, holds_exact}
+use Rattle.lx_emission.proofs.Pieces.{own_for, own_below}
+use Rattle.lx_emission.proofs.Runs.{block_runs}
+use Rattle.lx_emission.proofs.Blocks.{sync_plain, sync_below, clocked_some, clocked_own, reset_within}
+use Rattle.lx_emission.proofs.Within.{list_made}
+use Rattle.lx_emission.proofs.Whole.{cycle_meaning, drivers_are}
+use Rattle.lx_emission.proofs.Follow.{Moment, moment, patterns_of, has_patterns, settled_for, settles, net_bits, reset_assigned, own_pattern}
+
+-- ---- the domain of a number
+
+domains_at : (d : Design) (j k : ℕ) (xs : List Domain) (x : Domain) → slice_get xs k ≡ Some x → slice_index_or (domains_from d j xs) k no_domain ≡ domain_of d (j + k) x
+domains_at d j k [] x e = absurd cc
+domains_at d j zero (y ∷ ys) x e = let same : y ≡ x = cc in rw same (ap (λ (i : ℕ). domain_of d i x) (let p : j ≡ j + 0 = omega arith in p))
+domains_at d j (suc k) (y ∷ ys) x e = domains_at d (j + 1) k ys x e ∙ ap (λ (i : ℕ). domain_of d i x) (let p : j + 1 + k ≡ j + suc k = omega arith in p)
+
+domain_is : (d : Design) (k : ℕ) (x : Domain) → slice_get d.domains k ≡ Some x → domain_at (circuit_of d) k ≡ domain_of d k x
+unfolding circuit_of
+domain_is d k x e = domains_at d 0 k d.domains x e ∙ ap (λ (i : ℕ). domain_of d i x) (let p : 0 + k ≡ k = omega arith in p)
+
+-- ---- the reset of a clocked block
+
+reset_holds : (d : Design) (names : List Name) (v : Values) (w : Valuation) (r : SigId) → CanBeEmitted d names → Moment d names v w → r.0 < length d.signals → holds (sizes (emitted d names)) w (Net (net names r.0)) ≡ not (is_zero (v r.0))
+reset_holds d names v w r can now lt =
+    let s = sizes (emitted d names) in
+    let a = shapes d r.0 in
+    holds_exact w a.bits a.signed (v r.0) (meaning s (Net (net names r.0)))
+    (net_exact w s (net names r.0) a (v r.0) ((declares d names can.keeps can.named can.ports).signals r.0 lt) (design.signal_small d can.keeps r.0) (now.fits.each r.0) (now.has.signals r.0 lt))
+
+by_tests : (a b c : Bool) (p q : ℕ) → a ≡ c → cond b q (cond a p q) ≡ cond (c && not b) p q
+by_tests true true c p q e = rw (sym e) refl
+by_tests true false c p q e = rw (sym e) refl
+by_tests false true c p q e = rw (sym e) refl
+by_tests false false c p q e = rw (sym e) refl
+
+run_choice : (s : Sizes) (w : Valuation) (b : Bool) (body : VBlock) (p : ℕ) → run_block s w (cond b EndBlock body) p ≡ cond b p (run_block s w body p)
+run_choice s w true body p = refl
+run_choice s w false body p = refl
+
+same_choice : (b c : Bool) (p q r : ℕ) → p ≡ q → cond b r (cond c p r) ≡ cond b r (cond c q r)
+same_choice b c p q r e = ap (λ (z : ℕ). cond b r (cond c z r)) e
+
+reset_runs : (d : Design) (names : List Name) (v : Values) (w : Valuation) (x : ℕ) (o : Option SigId) (p : ℕ) → CanBeEmitted d names → Moment d names v w → x < length d.signals → ((r : SigId) → o ≡ Some r → r.0 < length d.signals)
+    → run_block (sizes (emitted d names)) w (reset_block d names x o) p ≡ cond (is_reset v (option_map signal_number o) && not (made (circuit_of d) x).reset_less) (modulo (reset_of_signal d x) (2 ^ (shapes d x).bits)) p
+reset_runs d names v w x None p can now lt within = refl
+reset_runs d names v w x (Some r) p can now lt within =
+    let s = sizes (emitted d names) in
+    let less = (made (circuit_of d) x).reset_less in
+    let body = InBlock (When (Net (net names r.0)) (InBlock (Assign (Whole (net names x)) false (reset_text d x)) EndBlock) NoElse) EndBlock in
+    let to = assigned s w (s (net names x)).bits (reset_text d x) in
+    run_choice s w less body p
+    ∙ (same_choice less (holds s w (Net (net names r.0))) to (modulo (reset_of_signal d x) (2 ^ (shapes d x).bits)) p (reset_assigned d names x w can lt)
+    ∙ by_tests (holds s w (Net (net names r.0))) less (not (is_zero (v r.0))) (modulo (reset_of_signal d x) (2 ^ (shapes d x).bits)) p (reset_holds d names v w r can now (within r refl)))
+
+choice_pattern : (b : Bool) (m : ℕ) (y z : ℤ) → modulo (cond b y z) m ≡ cond b (modulo y m) (modulo z m)
+choice_pattern true m y z = refl
+choice_pattern false m y z = refl
+
+-- ---- a step
+
+-- what a risen domain gives a signal
+risen_pattern : (d : Design) (names : List Name) (v : Values) (w : Valuation) (x k : ℕ) (y : Domain) → CanBeEmitted d names → Moment d names v w → x < length d.signals → slice_get d.domains k ≡ Some y
+    → run_block (sizes (emitted d names)) w (clocked_body d names x k (own d x (stmts_of k d.sync))) (modulo (v x) (2 ^ (shapes d x).bits)) ≡ pattern (circuit_of d) x (risen (circuit_of d) v (domain_of d k y) x)
+risen_pattern d names v w x k y can now lt there =
+    let n = (shapes d x).bits in
+    let s = sizes (emitted d names) in
+    let keeps = can.keeps in
+    let all = stmts_of k d.sync in
+    let ids = own d x all in
+    let plain = sync_plain d k d.sync can.lowered.sync in
+    let below = sync_below d k d.sync keeps.sync in
+    let old = modulo (v x) (2 ^ n) in
+    let o = domain_reset (slice_get d.domains k) in
+    let runs = block_runs d names s v w false x keeps (declares d names keeps can.named can.ports) now.stand lt ids (own_below d x (length d.stmts) all below) (own_for d x all plain) (reset_block d names x o) old (modulo-below (v x) (2 ^ n) (pow_pos n)) in
+    let moved = own_pattern d v x all (v x) keeps below plain in
+    runs
+    ∙ (reset_runs d names v w x o (after_pieces x old (taken_block (shapes d) v (block d ids))) can now lt (λ r e. reset_within d keeps k r e)
+    ∙ (ap (λ (q : ℕ). cond (is_reset v (option_map signal_number o) && not (made (circuit_of d) x).reset_less) (modulo (reset_of_signal d x) (2 ^ n)) q) (sym moved)
+    ∙ (ap (λ (h : Option Domain). cond (is_reset v (option_map signal_number (domain_reset h)) && not (made (circuit_of d) x).reset_less) (modulo (reset_of_signal d x) (2 ^ n)) (modulo (result (shapes d) x (v x) (taken_block (shapes d) v (block d all))) (2 ^ n))) there
+    ∙ sym (choice_pattern (is_reset v (option_map signal_number y.reset) && not (made (circuit_of d) x).reset_less) (2 ^ n) (reset_of_signal d x) (result (shapes d) x (v x) (taken_block (shapes d) v (block d all)))))))
+
+step_pattern : (b c : Bool) (p q : ℕ) (m : ℕ) (y z : ℤ) → b ≡ c → p ≡ modulo y m → q ≡ modulo z m → cond b p q ≡ modulo (cond c y z) m
+step_pattern true c p q m y z e f g = rw (sym e) f
+step_pattern false c p q m y z e f g = rw (sym e) g
+
+sync_drive : (d : Design) (x k : ℕ) → role (circuit_of d) x ≡ Sync k → drive d x ≡ Clocked k (own d x (stmts_of k d.sync))
+unfolding drive
+sync_drive d x k e = ap (drive_by d x) e
+
+-- a registered signal is one of the design's
+registered : (d : Design) (names : List Name) (x k : ℕ) → CanBeEmitted d names → role (circuit_of d) x ≡ Sync k → x < length d.signals
+registered d names x k can e =
+    let f = sync_drive d x k e in
+    let list = clocked_own d x k (own d x (stmts_of k d.sync)) can.keeps can.lowered f in
+    list_made d x can.keeps (own d x (stmts_of k d.sync)) list.plain (clocked_some d x k (own d x (stmts_of k d.sync)) f)
+
+registered_next : (d : Design) (names : List Name) (state v : Values) (v_state w : Valuation) (rises : ℕ → Bool) (v_rises : Name → Bool) (x k : ℕ) → CanBeEmitted d names → Moment d names v w
+    → role (circuit_of d) x ≡ Sync k → v_state.nets (net names x) ≡ modulo (state x) (2 ^ (shapes d x).bits) → v x ≡ state x → v_rises (clock d k) ≡ rises k
+    → (v_next (emitted d names) v_state w v_rises).nets (net names x) ≡ pattern (circuit_of d) x (next_state (circuit_of d) state v rises x)
+registered_next d names state v v_state w rises v_rises x k can now e same held rise =
+    let m = emitted d names in
+    let n = (shapes d x).bits in
+    let lt = registered d names x k can e in
+    let f = sync_drive d x k e in
+    let ids = own d x (stmts_of k d.sync) in
+    let within = clocked_within d x k ids f in
+    let (y, there) = node_there d.domains k within in
+    let body = clocked_body d names x k ids in
+    let is : driver m (net names x) ≡ runs.Clocked (clock d k) body = ap first_driver ((drivers_are d names can).signals x lt) ∙ ap (driver_by d names x) f in
+    let old : v_state.nets (net names x) ≡ modulo (v x) (2 ^ n) = same ∙ ap (λ z. modulo z (2 ^ n)) (sym held) in
+    let ran = ap (λ p. run_block (sizes m) w body p) old ∙ risen_pattern d names v w x k y can now lt there in
+    let domain = domain_is d k y there in
+    ap (next_net m v_state w v_rises (net names x)) is
+    ∙ (step_pattern (v_rises (clock d k)) (rises k) (run_block (sizes m) w body (v_state.nets (net names x))) (v_state.nets (net names x)) (2 ^ n) (risen (circuit_of d) v (domain_of d k y) x) (state x) rise ran same
+    ∙ (ap (λ h. modulo (cond (rises k) (risen (circuit_of d) v h x) (state x)) (2 ^ n)) (sym domain)
+    ∙ ap (λ r. modulo (circuit.next (circuit_of d) state v rises x r) (2 ^ n)) (sym e)))
+
+domains_long : (d : Design) (j : ℕ) (xs : List Domain) → length (domains_from d j xs) ≡ length xs
+domains_long d j [] = refl
+domains_long d j (x ∷ xs) = ap suc (domains_long d (j + 1) xs)
+
+within_circuit : (d : Design) (k : ℕ) → k < length d.domains → k < length (circuit_of d).domains
+unfolding circuit_of
+within_circuit d k lt = omega (arith, domains_long d 0 d.domains)
+
+sync_held : (d : Design) (state inputs v : Values) (x k : ℕ) → IsSettled (circuit_of d) state inputs v → role (circuit_of d) x ≡ Sync k → v x ≡ state x
+sync_held d state inputs v x k settled e = settled.each x ∙ ap (by_role (circuit_of d) state inputs v x) e
+
+-- settled patterns are those of the values, for nodes too
+settled_patterns : (d : Design) (names : List Name) (state inputs v : Values) (v_state w : Valuation) (v_inputs : Name → ℕ) → CanBeEmitted d names → StateFits (circuit_of d) state → InputsFit (circuit_of d) inputs
+    → SameState (circuit_of d) (naming d names) state v_state → SameInputs (circuit_of d) (naming d names) inputs v_inputs → IsSettled (circuit_of d) state inputs v → IsVSettled (emitted d names) v_state v_inputs w → HasPatterns d names v w
+settled_patterns d names state inputs v v_state w v_inputs can fits inputs_fit same_s same_i settled v_settled =
+    let one = v_views.settling (emitted d names) (cycle_meaning d names can) v_state v_inputs in
+    let has = has_patterns d names can.keeps can.named v v_inputs v_state in
+    let same : (n : Name) → w.nets n ≡ (patterns_of d names v v_inputs v_state).nets n = λ n. (one.only w v_settled).nets n ∙ sym ((one.only (patterns_of d names v v_inputs v_state) (settled_for d names state inputs v v_state v_inputs can fits inputs_fit same_s same_i settled)).nets n) in
+    record { signals = λ x lt. same (net names x) ∙ has.signals x lt; nodes = λ k is. same (node_net d.exprs k) ∙ has.nodes k is }
+
+steps : (d : Design) (names : List Name) → CanBeEmitted d names → Steps (circuit_of d) (emitted d names) (naming d names)
+steps d names can state inputs v v_state w v_inputs rises v_rises fits inputs_fit same_s same_i settled v_settled same_v rise =
+    let all : SignalsFit d v = record { each = λ x. settled_fits (circuit_of d) (design.keeps_shapes d can.keeps) state inputs v fits inputs_fit settled x } in
+    let now = moment d names v w can all (settled_patterns d names state inputs v v_state w v_inputs can fits inputs_fit same_s same_i settled v_settled) in
+    record {
+      each = λ x k e.
+          let within = clocked_within d x k (own d x (stmts_of k d.sync)) (sync_drive d x k e) in
+          registered_next d names state v v_state w rises v_rises x k can now e (same_s.each x k e) (sync_held d state inputs v x k settled e) (rise k (within_circuit d k within));
+    }
+
+-- ---- the first state
+
+literal_first : (d : Design) (names : List Name) (x : ℕ) (g : Drive) → CanBeEmitted d names → x < length d.signals → (k : ℕ) (body : List StmtId) → g ≡ Clocked k body
+    → first_net (Some (record { signed = (shape_of_signal d x).signed; bits = (shape_of_signal d x).bits; name = net names x; init = init_of (shape_of_signal d x) (reset_of_signal d x) g })) ≡ modulo (reset_of_signal d x) (2 ^ (shapes d x).bits)
+literal_first d names x g can lt k body e =
+    let n = (shapes d x).bits in
+    let t = (shapes d x).signed in
+    let some = (signal_bits d can.keeps x lt).0 in
+    let u = runs.zeros in
+    let none : Sizes = λ name. runs.memory_declared None in
+    ap (λ h. first_net (Some (record { signed = (shape_of_signal d x).signed; bits = (shape_of_signal d x).bits; name = net names x; init = init_of (shape_of_signal d x) (reset_of_signal d x) h }))) e
+    ∙ (cut_exact u n t (wrapped (shape n t) (reset_of_signal d x)) (meaning none (reset_text d x)) (literal_exact u (reset_of_signal d x) n t some) n
+    ∙ modulo-wrap_bits n t (reset_of_signal d x))
+
+starts : (d : Design) (names : List Name) → CanBeEmitted d names → SameState (circuit_of d) (naming d names) (first_state (circuit_of d)) (v_first (emitted d names))
+unfolding signal_net
+starts d names can = record {
+  each = λ x k e.
+      let lt = registered d names x k can e in
+      ap first_net (net_of_signal d names can.keeps can.named can.ports x lt) ∙ literal_first d names x (drive d x) can lt k (own d x (stmts_of k d.sync)) (sync_drive d x k e);
+}
+
+pub follows : (d : Design) (names : List Name) → CanBeEmitted d names → Follows (circuit_of d) (emitted d names) (naming d names)
+follows d names can = record { settles = settles d names can; steps = steps d names can; starts = starts d names can }
