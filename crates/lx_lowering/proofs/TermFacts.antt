@@ -192,6 +192,12 @@ keeps_cat s n parts h k e = record {
   fault = after_none (faults_of s parts) (too_wide (bits_sum (shapes_of s parts))) k.fault e;
 }
 
+pub keeps_pick : (s : Shapes) (n : ℕ) (items : Terms) (i : Term) → has_some items ≡ true → TermsKeep s n items → TermKeeps s n i → pick_fault (shapes_of s items) (shape_of s i) ≡ None → TermKeeps s n (Pick items i)
+keeps_pick s n items i h k m e = record {
+  sound = and_true (has_some items) (are_sound n items && is_sound n i) h (and_true (are_sound n items) (is_sound n i) k.sound m.sound);
+  fault = after_none (faults_of s items) (or_else (fault_of s i) (pick_fault (shapes_of s items) (shape_of s i))) k.fault (after_none (fault_of s i) (pick_fault (shapes_of s items) (shape_of s i)) m.fault e);
+}
+
 pub keeps_replicate : (s : Shapes) (n : ℕ) (a : Term) (count : ℕ) → TermKeeps s n a → replicate_fault (shape_of s a) count ≡ None → TermKeeps s n (Replicate a count)
 keeps_replicate s n a count k e = record { sound = k.sound; fault = after_none (fault_of s a) (replicate_fault (shape_of s a) count) k.fault e }
 
