@@ -1,0 +1,3 @@
+pub mod LowerTerms
+pub mod Picks
+pub mod TermFacts
