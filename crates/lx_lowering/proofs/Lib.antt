@@ -1,1 +1,2 @@
+pub mod FoldFacts
 pub mod SplitFacts
