@@ -1,2 +1,3 @@
 pub mod FoldFacts
+pub mod ListFacts
 pub mod SplitFacts
