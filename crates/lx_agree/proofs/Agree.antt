@@ -1,21 +1,19 @@
 -- A module that follows a circuit agrees with it after every run: step by step both settle in exactly
 -- one way, and what is settled for the one has the patterns of what is settled for the other.
-use Rattle.std.proofs.Common.{◌≡◌, ℕ, Bool, List, [], ◌∷◌, ◌<◌, ◌^◌, length, refl, sym, ◌∙◌, ap}
-use Rattle.lx_num.specs.Ints.{read_bits, modulo}
+use Rattle.std.proofs.Common.{◌≡◌, ℕ, List, [], ◌∷◌, ◌<◌, length, sym, ◌∙◌, ap}
 use Rattle.lx_num.proofs.Ranges.{read_bits-modulo}
 use Rattle.lx_circuit.specs.Values.{Values}
-use Rattle.lx_circuit.specs.Circuit.{Circuit, Step, shapes, IsSettled, IsView, ViewFrom, InputsFit, StepsFit, KeepsShapes, next_state, first_state}
+use Rattle.lx_circuit.specs.Circuit.{Circuit, Step, shapes, IsSettled, ViewFrom, InputsFit, StateFits, StepsFit, KeepsShapes, next_state, first_state}
 use Rattle.lx_circuit.specs.Reads.{HasOrder}
+use Rattle.lx_circuit.proofs.Fitting.{settled_fits, next_state_fits, first_state_fits}
 use Rattle.lx_circuit.proofs.Views.{viewed_once}
 use Rattle.lx_vtext.specs.Tree.{Name, VModule}
 use Rattle.lx_vmeaning.specs.Meaning.{Valuation}
-use Rattle.lx_vmeaning.specs.Runs.{VStep, IsVSettled, IsVView, VViewFrom, v_next, v_first}
+use Rattle.lx_vmeaning.specs.Runs.{VStep, IsVSettled, VViewFrom, v_next, v_first}
 use Rattle.lx_vmeaning.specs.Cycle.{HasCycleMeaning}
-use Rattle.lx_vmeaning.specs.Settling.{VSettlesOnce}
 use Rattle.lx_vmeaning.proofs.Views as v_views
-use Rattle.lx_agree.specs.Agreement.{Naming, pattern, number, SameInputs, SameStep, SameSteps, SameRun, Agrees}
-use Rattle.lx_agree.specs.Following.{StateFits, SameState, SameValues, Follows}
-use Rattle.lx_agree.proofs.Fitting.{settled_fits, next_state_fits, first_state_fits}
+use Rattle.lx_agree.specs.Agreement.{Naming, number, SameInputs, SameSteps, Agrees}
+use Rattle.lx_agree.specs.Following.{SameState, SameValues, Follows}
 
 -- whatever patterns are settled, they are the signals'
 pub settled_same : (c : Circuit) (m : VModule) (names : Naming) → HasCycleMeaning m → Follows c m names → (state inputs v : Values) (v_state : Valuation) (v_inputs : Name → ℕ) (w : Valuation)

@@ -1,18 +1,13 @@
 -- How a module follows a circuit, settled valuation by settled valuation: the premise of agreement.
 use Rattle.std.specs.Prelude.{◌≡◌, ℕ, Bool, ◌<◌, length}
-use Rattle.lx_num.specs.Ints.{Fits}
 use Rattle.lx_circuit.specs.Values.{Values}
-use Rattle.lx_circuit.specs.Circuit.{Circuit, Role, Sync, role, shapes, IsSettled, InputsFit, KeepsShapes, next_state, first_state}
+use Rattle.lx_circuit.specs.Circuit.{Circuit, Sync, role, IsSettled, InputsFit, StateFits, KeepsShapes, next_state, first_state}
 use Rattle.lx_circuit.specs.Reads.{HasOrder}
 use Rattle.lx_vtext.specs.Tree.{Name, VModule}
 use Rattle.lx_vmeaning.specs.Meaning.{Valuation}
 use Rattle.lx_vmeaning.specs.Runs.{IsVSettled, v_next, v_first}
 use Rattle.lx_vmeaning.specs.Cycle.{HasCycleMeaning}
 use Rattle.lx_agree.specs.Agreement.{Naming, pattern, SameInputs, Agrees}
-
--- a state fits the shapes of its signals
-pub record StateFits (c : Circuit) (state : Values) : Type 0 where
-  pub each : (x : ℕ) → Fits (shapes c x) (state x)
 
 -- each registered signal's net has its pattern
 pub record SameState (c : Circuit) (names : Naming) (state : Values) (v_state : Valuation) : Type 0 where

@@ -1,4 +1,5 @@
 pub mod Cases
+pub mod Fitting
 pub mod Frames
 pub mod Settle
 pub mod Views

@@ -123,6 +123,10 @@ IsView c steps inputs v = ViewFrom c (first_state c) steps inputs v
 pub record InputsFit (c : Circuit) (inputs : Values) : Type 0 where
   pub each : (x : ℕ) → role c x ≡ Input → Fits (shapes c x) (inputs x)
 
+-- a state fits the shapes of its signals
+pub record StateFits (c : Circuit) (state : Values) : Type 0 where
+  pub each : (x : ℕ) → Fits (shapes c x) (state x)
+
 abbrev pub StepsFit : Circuit → List Step → Type 0
 StepsFit c [] = Unit {0}
 StepsFit c (t ∷ ts) = InputsFit c t.inputs × StepsFit c ts

@@ -22,14 +22,15 @@ use Rattle.lx_vmeaning.specs.Meaning as verilog
 use Rattle.lx_vmeaning.specs.Meaning.{Sizes, Valuation, Meaning, extend, meaning, meanings, own, leaf, assigned}
 use Rattle.lx_tie.specs.Stands.{Exact, Drives}
 use Rattle.lx_tie.specs.Rows as row
-use Rattle.lx_tie.specs.Rows.{is_unary, is_binary, TakesRight}
+use Rattle.lx_tie.specs.Rows.{TakesRight}
+use Rattle.lx_circuit.specs.Operands.{is_unary, is_binary}
 use Rattle.lx_tie.proofs.Leaves.{exact_leaf, own_exact, drives_net, spreads_drives, exact_spreads}
 use Rattle.lx_tie.proofs.Rows.{unary_drives, binary_drives, choice_drives}
 use Rattle.lx_tie.proofs.Parts.{Parts, reversed_onto, field_bits, exact_select, exact_cat, exact_repeat}
 use Rattle.lx_fhdl.specs.Below.{ExprId}
 use Rattle.lx_fhdl.specs.Nodes.{EachPlace, EachChild, HasParts}
 use Rattle.lx_fhdl.specs.Designs.{term, shapes}
-use Rattle.lx_fhdl.specs.Keeping.{Keeps}
+use Rattle.lx_fhdl.specs.Keeping.{Keeps, TakesOperands}
 use Rattle.lx_fhdl.specs.Lowered.{IsLowered, is_no_pick}
 use Rattle.lx_fhdl.specs.Trees.{terms_at, node_term}
 use Rattle.lx_fhdl.specs.declared.exprs.Expr.{Expr}
@@ -42,16 +43,6 @@ use Rattle.lx_emission.specs.Naming.{has_net, node_net}
 use Rattle.lx_emission.specs.Nodes.{node_shape, operand_of, operand, wide_if, parts_onto, concat_of, cat_text, slice_text, unary_text, binary_text, choice_text, node_text_of, node_text}
 use Rattle.lx_emission.proofs.Setting.{IsNetNode, DeclaresNets, HasPatterns, SignalsFit, TermsAreSmall, TermsFit}
 use Rattle.lx_emission.proofs.Operands.{ExactTerm, operand_exact}
-
--- the operator of a node takes as many operands as the node has
-abbrev pub OperatorFits : Expr → Type 0
-OperatorFits (Unary o of) = is_unary o ≡ true
-OperatorFits (Binary o left right) = is_binary o ≡ true
-OperatorFits _ = Unit {0}
-
--- so do the operators of all nodes
-pub record OperatorsFit (d : Design) : Type 0 where
-  pub each : (k : ℕ) (x : Expr) → slice_get d.exprs k ≡ Some x → OperatorFits x
 
 -- ---- operators
 
@@ -207,7 +198,7 @@ replicate_exact w s a count z e f x =
 
 -- the text of a node gives the node's net the bits of its value, where its operands stand exactly for theirs
 node_drives : (w : Valuation) (s : Sizes) (h : Shapes) (v : Values) (t : ℕ → Term) (o : ℕ → VExpr) (x : Expr)
-    → ((j : ℕ) → is_leaf (o j) ≡ true) → has_net x ≡ true → is_no_pick x ≡ true → OperatorFits x → HasParts x → fault_of h (node_term t x) ≡ None
+    → ((j : ℕ) → is_leaf (o j) ≡ true) → has_net x ≡ true → is_no_pick x ≡ true → TakesOperands x → HasParts x → fault_of h (node_term t x) ≡ None
     → EachChild (λ j. ExactTerm w h v (t j) (meaning s (o j))) x
     → Drives w (shape_of h (node_term t x)).bits (value_of h v (node_term t x)) (meaning s (node_text_of (λ j. shape_of h (t j)) o (Some x)))
 node_drives w s h v t o (Const value bits signed) leaf n l f p e c = absurd (cc)
@@ -250,10 +241,10 @@ operand-is_leaf d names k = operand_leaf names (node_net d.exprs k) (slice_get d
 
 -- The text of each operator and slice gives its net the bits of the node's value.
 pub node_text_stands : (d : Design) (names : List Name) (s : Sizes) (v : Values) (w : Valuation)
-    → Keeps d → IsLowered d → DeclaresNets d names s → HasPatterns d names v w → SignalsFit d v → TermsAreSmall d → TermsFit d v → OperatorsFit d
+    → Keeps d → IsLowered d → DeclaresNets d names s → HasPatterns d names v w → SignalsFit d v → TermsAreSmall d → TermsFit d v
     → (k : ℕ) → IsNetNode d k → Drives w (node_shape d k).bits (value_of (shapes d) v (term d k)) (meaning s (node_text d names k))
 unfolding node_shape node_text
-node_text_stands d names s v w keeps lowered declares has fits small fit operators k node =
+node_text_stands d names s v w keeps lowered declares has fits small fit k node =
     let x = node.node in
     let there = node.there in
     let h = shapes d in
@@ -264,13 +255,13 @@ node_text_stands d names s v w keeps lowered declares has fits small fit operato
     let Q : Option Expr → Type 0 = λ o. Drives w (shape_of h (term d k)).bits (value_of h v (term d k)) (meaning s (node_text_of (λ j. shape_of h (term d j)) (operand d names) o)) in
     let R : Term → Type 0 = λ t. Drives w (shape_of h t).bits (value_of h v t) (meaning s (node_text_of (λ j. shape_of h (term d j)) (operand d names) (Some x))) in
     subst Q (sym there) (subst R (sym is)
-    (node_drives w s h v (term d) (operand d names) x (operand-is_leaf d names) node.net (lowered.exprs k x there) (operators.each k x there) (keeps.parts k x there)
+    (node_drives w s h v (term d) (operand d names) x (operand-is_leaf d names) node.net (lowered.exprs k x there) (keeps.operands k x there) (keeps.parts k x there)
     (ap (fault_of h) (sym is) ∙ keeps.shaped k within)
     (each_child P k x below (lower_at d.exprs keeps.exprs_lower k x there))))
 
 -- The net of each operator and slice takes the pattern of the node's value.
 pub node_text_drives : (d : Design) (names : List Name) (s : Sizes) (v : Values) (w : Valuation)
-    → Keeps d → IsLowered d → DeclaresNets d names s → HasPatterns d names v w → SignalsFit d v → TermsAreSmall d → TermsFit d v → OperatorsFit d
+    → Keeps d → IsLowered d → DeclaresNets d names s → HasPatterns d names v w → SignalsFit d v → TermsAreSmall d → TermsFit d v
     → (k : ℕ) → IsNetNode d k → assigned s w (node_shape d k).bits (node_text d names k) ≡ modulo (value_of (shapes d) v (term d k)) (2 ^ (node_shape d k).bits)
-node_text_drives d names s v w keeps lowered declares has fits small fit operators k node =
-    drives_net w (node_shape d k).bits (value_of (shapes d) v (term d k)) (meaning s (node_text d names k)) (node_text_stands d names s v w keeps lowered declares has fits small fit operators k node)
+node_text_drives d names s v w keeps lowered declares has fits small fit k node =
+    drives_net w (node_shape d k).bits (value_of (shapes d) v (term d k)) (meaning s (node_text d names k)) (node_text_stands d names s v w keeps lowered declares has fits small fit k node)

@@ -1,8 +1,12 @@
 pub mod Arena
+pub mod Designs
 pub mod Fitting
 pub mod Frames
+pub mod Instance
 pub mod Machine
 pub mod Meanings
 pub mod Operators
 pub mod Parts
+pub mod StmtTrees
 pub mod Trees
+pub mod TreesFit

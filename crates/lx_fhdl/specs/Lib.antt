@@ -1,5 +1,6 @@
 pub mod Below
 pub mod Designs
+pub mod Instance
 pub mod Keeping
 pub mod Laws
 pub mod Lowered

@@ -10,14 +10,14 @@ use Rattle.lx_num.proofs.Ints.{modulo-below, modulo-modulo}
 use Rattle.lx_circuit.specs.Values.{Values, value_of}
 use Rattle.lx_circuit.specs.Statements.{drives_block, laid_over, taken_block, after_pieces, result}
 use Rattle.lx_circuit.specs.Circuit.{Circuit, Made, Role, Input, Comb, Sync, Undriven, made, shapes, role, is_among, by_role, IsSettled, InputsFit, KeepsShapes, next_state, first_state}
+use Rattle.lx_circuit.proofs.Fitting.{settled_fits}
 use Rattle.lx_vtext.specs.Tree.{Name, VExpr, Net}
 use Rattle.lx_vmeaning.specs.Meaning.{Valuation, assigned}
 use Rattle.lx_vmeaning.specs.Runs.{Driver, Outside, ByAssign, sizes, driver, first_driver, by_driver, IsVSettled, v_next, v_first}
 use Rattle.lx_vmeaning.specs.Cycle.{HasCycleMeaning}
 use Rattle.lx_vmeaning.proofs.Views as v_views
 use Rattle.lx_agree.specs.Agreement.{SameInputs}
-use Rattle.lx_agree.specs.Following.{StateFits, SameState, SameValues, Settles, Steps, Follows}
-use Rattle.lx_agree.proofs.Fitting.{settled_fits}
+use Rattle.lx_agree.specs.Following.{SameState, SameValues, Settles, Steps, Follows}
 use Rattle.lx_form.specs.declared.file.Side.{Side}
 use Rattle.lx_form.specs.declared.file.Side.TheVariants as side
 use Rattle.lx_form.specs.declared.file.Signal.{Signal}

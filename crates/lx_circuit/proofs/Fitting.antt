@@ -1,12 +1,11 @@
 -- The values of a circuit fit their shapes.
-use Rattle.std.proofs.Common.{◌≡◌, ℕ, ℤ, Bool, true, false, List, [], ◌∷◌, ◌<◌, ◌≤◌, ◌^◌, ◌%◌, ◌&&◌, cond, not, refl, sym, ◌∙◌, ap, subst, arith}
+use Rattle.std.proofs.Common.{◌≡◌, ℕ, ℤ, Bool, true, false, List, [], ◌∷◌, ◌^◌, ◌%◌, ◌&&◌, cond, not, refl, sym, subst}
 use Rattle.std.proofs.lemmas.Nat.{mod_below, pow_pos}
-use Rattle.lx_num.specs.Ints.{Fits, FitsBits, modulo, read_bits}
+use Rattle.lx_num.specs.Ints.{Fits, modulo}
 use Rattle.lx_num.proofs.Ranges.{FitsBits-read_bits}
 use Rattle.lx_circuit.specs.Values.{Values}
 use Rattle.lx_circuit.specs.Statements.{Piece, result, after_pieces, taken_block}
-use Rattle.lx_circuit.specs.Circuit.{Circuit, Domain, Role, Input, Comb, Sync, Undriven, role, by_role, made, shapes, is_reset, risen, next, next_state, first_state, domain_at, IsSettled, InputsFit, KeepsShapes}
-use Rattle.lx_agree.specs.Following.{StateFits}
+use Rattle.lx_circuit.specs.Circuit.{Circuit, Role, Input, Comb, Sync, Undriven, role, by_role, made, shapes, is_reset, risen, next, next_state, first_state, domain_at, IsSettled, InputsFit, StateFits, StepsFit, KeepsShapes, Step, ViewFrom, IsView}
 
 pub result_fits : (c : Circuit) → KeepsShapes c → (x : ℕ) (start : ℤ) (ps : List Piece) → Fits (shapes c x) (result (shapes c) x start ps)
 result_fits c k x start ps =
@@ -40,3 +39,12 @@ next_state_fits c k state v rises s = record { each = λ x. next_fits c k state 
 
 pub first_state_fits : (c : Circuit) → KeepsShapes c → StateFits c (first_state c)
 first_state_fits c k = record { each = λ x. (k.each x).fits }
+
+-- the values of a view from a state
+from_fits : (c : Circuit) → KeepsShapes c → (steps : List Step) (state inputs v : Values) → StateFits c state → StepsFit c steps → InputsFit c inputs → ViewFrom c state steps inputs v → (x : ℕ) → Fits (shapes c x) (v x)
+from_fits c k [] state inputs v s f i p x = settled_fits c k state inputs v s i p x
+from_fits c k (t ∷ ts) state inputs v s f i p x =
+    from_fits c k ts (next_state c state p.0 t.rises) inputs v (next_state_fits c k state p.0 t.rises s) f.1 i p.2 x
+
+pub view_fits : (c : Circuit) → KeepsShapes c → (steps : List Step) (inputs : Values) → StepsFit c steps → InputsFit c inputs → (v : Values) → IsView c steps inputs v → (x : ℕ) → Fits (shapes c x) (v x)
+view_fits c k steps inputs f i v p x = from_fits c k steps (first_state c) inputs v (first_state_fits c k) f i p x
