@@ -1,5 +1,5 @@
 -- Statements of one signal that read nothing give what the constant in their place gives.
-use Rattle.std.proofs.Common.{◌≡◌, ℕ, ℤ, zero, suc, ◌+◌, ◌*◌, ◌/◌, ◌%◌, ◌^◌, ◌<◌, ◌≤◌, Bool, true, false, ◌&&◌, ◌||◌, List, [], ◌∷◌, max, not, nat_eq, cond, refl, sym, ◌∙◌, ap, subst, arith, eqb-true, eq-eqb}
+use Rattle.std.proofs.Common.{◌≡◌, ℕ, ℤ, ◌+◌, ◌*◌, ◌%◌, ◌^◌, ◌<◌, ◌≤◌, Bool, true, false, ◌&&◌, ◌||◌, not, nat_eq, cond, refl, sym, ◌∙◌, ap, arith, eqb-true, eq-eqb}
 use Rattle.std.proofs.Math.Bool.{or-false, and-true, and-false}
 use Rattle.std.proofs.Math.Nat.{mod-eq_of_lt, div-eq_of_lt}
 use Rattle.std.proofs.lemmas.Bool.{and_parts, or_from, ne_eqb, le-leb}
@@ -12,9 +12,9 @@ use Rattle.lx_num.proofs.Ranges.{FitsBits-read_bits, read_bits-modulo, wrap_bits
 use Rattle.lx_circuit.specs.Terms.{Term, Terms, Constant, Signal, Unary, Binary, Mux, Cat, Replicate, Slice, Pick, NoTerm, MoreTerms}
 use Rattle.lx_circuit.specs.Shapes.{Shapes, constant_fault}
 use Rattle.lx_circuit.specs.Values.{Values}
-use Rattle.lx_circuit.specs.Statements.{Target, Targets, Whole, Part, CatTarget, PickTarget, Stmt, Assign, If, Case, Branches, NoBranch, Branch, Block, Done, Then, piece, taken_block, laid_over, after_pieces, result, is_target, drives, drives_block}
+use Rattle.lx_circuit.specs.Statements.{Target, Whole, Part, CatTarget, PickTarget, Stmt, Assign, If, Case, NoBranch, Branch, Block, Done, Then, taken_block, laid_over, after_pieces, result, is_target, drives, drives_block}
 use Rattle.lx_circuit.specs.Reads.{names, some_names, target_names, reads, reads_block}
-use Rattle.lx_circuit.proofs.Frames.{AgreeOn, block_same}
+use Rattle.lx_circuit.proofs.Frames.{block_same}
 use Rattle.lx_fhdl.specs.Nodes.{IsSmall}
 use Rattle.lx_fhdl.specs.Keeping.{stmt_depth, block_depth}
 use Rattle.lx_fhdl.specs.Lowered.{is_plain_target, is_done, is_for, are_for}

@@ -1,3 +1,4 @@
 pub mod FoldFacts
 pub mod ListFacts
+pub mod SameRuns
 pub mod SplitFacts

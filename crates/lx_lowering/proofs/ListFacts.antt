@@ -1,12 +1,12 @@
 -- The lists of all signals joined: each signal is after all of them what it is after its own.
-use Rattle.std.proofs.Common.{◌≡◌, ℕ, zero, suc, ◌+◌, ◌<◌, ◌≤◌, Bool, true, false, ◌&&◌, ◌||◌, List, [], ◌∷◌, ◌++◌, length, max, not, nat_eq, cond, refl, sym, ◌∙◌, ap, subst, arith, eqb-true, ne_eqb}
+use Rattle.std.proofs.Common.{◌≡◌, ℕ, ◌+◌, ◌<◌, ◌≤◌, Bool, true, false, ◌&&◌, ◌||◌, List, [], ◌∷◌, length, not, nat_eq, refl, sym, ◌∙◌, ap, subst, arith, eqb-true, ne_eqb}
 use Rattle.std.proofs.Math.Bool.{or-false, and-false}
 use Rattle.std.proofs.lemmas.Bool.{and_parts, and_right, or_parts, or_from, eqb-false}
 use Rattle.lx_circuit.specs.Shapes.{Shapes}
 use Rattle.lx_circuit.specs.Values.{Values}
-use Rattle.lx_circuit.specs.Statements.{Stmt, Assign, If, Case, Branches, NoBranch, Branch, Arms, NoArm, Arm, Block, Done, Then, taken_block, after_pieces, is_target, drives, drives_branch, drives_arm, drives_block}
+use Rattle.lx_circuit.specs.Statements.{Stmt, Assign, If, Case, Branches, NoBranch, Branch, Arms, NoArm, Arm, Block, Done, Then, taken_block, after_pieces, drives, drives_branch, drives_arm, drives_block}
 use Rattle.lx_circuit.specs.Circuit.{Made}
-use Rattle.lx_circuit.specs.Reads.{names, target_names, reads, reads_branch, reads_arm, reads_block}
+use Rattle.lx_circuit.specs.Reads.{names, reads, reads_branch, reads_arm, reads_block}
 use Rattle.lx_circuit.proofs.Cases.{by_test, after_append}
 use Rattle.lx_circuit.proofs.Frames.{block_leaves}
 use Rattle.lx_fhdl.specs.Keeping.{block_depth}

@@ -1,20 +1,20 @@
 -- The statements of one signal among flat ones: they take its pieces, and drive, read and keep what they did.
-use Rattle.std.proofs.Common.{◌≡◌, ℕ, zero, suc, ◌+◌, ◌<◌, ◌≤◌, Bool, true, false, ◌&&◌, ◌||◌, List, [], ◌∷◌, ◌++◌, max, not, nat_eq, cond, refl, sym, ◌∙◌, ap, subst, arith, eqb-true, eq-eqb, append_assoc}
+use Rattle.std.proofs.Common.{◌≡◌, ℕ, ◌+◌, ◌≤◌, Bool, true, false, ◌&&◌, ◌||◌, List, [], ◌++◌, max, not, nat_eq, cond, refl, sym, ◌∙◌, ap, arith, eqb-true, eq-eqb, append_assoc}
 use Rattle.std.proofs.Math.Bool.{or-false, and-true, and-false, or_assoc, and-or_distrib_left}
 use Rattle.std.proofs.lemmas.Bool.{and_parts, and_from, cond_both}
 use Rattle.std.proofs.lemmas.List.{append-nil}
 use Rattle.lx_circuit.specs.Terms.{Term}
 use Rattle.lx_circuit.specs.Shapes.{Shapes}
 use Rattle.lx_circuit.specs.Values.{Values, value_of, is_zero}
-use Rattle.lx_circuit.specs.Statements.{Target, Targets, Whole, Part, CatTarget, PickTarget, NoTarget, MoreTargets, Stmt, Assign, If, Case, Branches, NoBranch, Branch, Arms, NoArm, Arm, Block, Done, Then, Piece, pieces, taken, taken_branch, taken_block, after_pieces, is_target, drives, drives_branch, drives_block}
+use Rattle.lx_circuit.specs.Statements.{Target, Whole, Part, CatTarget, PickTarget, Stmt, Assign, If, Case, Branches, NoBranch, Branch, Block, Done, Then, Piece, pieces, taken, taken_block, after_pieces, is_target, drives, drives_block}
 use Rattle.lx_circuit.specs.Reads.{names, target_names, reads, reads_block}
-use Rattle.lx_circuit.proofs.Cases.{by_test, and_true, after_append, same_choice, same_result}
+use Rattle.lx_circuit.proofs.Cases.{by_test, after_append, same_choice}
 use Rattle.lx_circuit.proofs.Frames.{target_leaves}
-use Rattle.lx_fhdl.specs.Keeping.{target_depth, stmt_depth, branches_depth, block_depth}
-use Rattle.lx_fhdl.specs.Lowered.{is_plain_target, is_done, is_end, is_lone, is_for, branches_are_for, are_for}
+use Rattle.lx_fhdl.specs.Keeping.{target_depth, stmt_depth, block_depth}
+use Rattle.lx_fhdl.specs.Lowered.{is_plain_target, is_done, is_lone, is_for, are_for}
 use Rattle.lx_lowering.specs.Flat.{append, one}
-use Rattle.lx_lowering.specs.Split.{lone_if, split, split_if, split_block}
-use Rattle.lx_lowering.specs.Lowering.{TermKeeps, StmtKeeps, BranchesKeep, BlockKeeps}
+use Rattle.lx_lowering.specs.Split.{lone_if, split, split_block}
+use Rattle.lx_lowering.specs.Lowering.{TermKeeps, StmtKeeps, BlockKeeps}
 
 -- ---- flat statements
 
