@@ -1,4 +1,5 @@
 pub mod FoldFacts
 pub mod ListFacts
+pub mod Lowering
 pub mod SameRuns
 pub mod SplitFacts
