@@ -7,6 +7,7 @@ use Rattle.lx_circuit.specs.Values.{Values}
 use Rattle.lx_circuit.specs.Statements.{Target, Targets, Whole, Part, CatTarget, PickTarget, NoTarget, MoreTargets, Stmt, Assign, If, Case, Branches, NoBranch, Branch, Arms, NoArm, Arm, Block, Done, Then, target_bits}
 use Rattle.lx_circuit.specs.Circuit.{Circuit, Made, Domain, Step, shapes, made, IsView, InputsFit, StepsFit, KeepsShapes}
 use Rattle.lx_circuit.specs.Reads.{HasOrder}
+use Rattle.lx_fhdl.specs.Nodes.{IsSmall}
 use Rattle.lx_fhdl.specs.Keeping.{EachOf}
 use Rattle.lx_fhdl.specs.Lowered.{ArePlain}
 use Rattle.lx_lowering.specs.Flat.{append, flat_block}
@@ -73,9 +74,10 @@ abbrev mutual
   BlockKeeps s n Done = Unit {0}
   BlockKeeps s n (Then x xs) = StmtKeeps s n x × BlockKeeps s n xs
 
--- signals of at least a bit, and statements that keep to them
+-- signals of 1 to 127 bits, and statements that keep to them
 pub record CanBeLowered (c : Circuit) : Type 0 where
   pub signals : KeepsShapes c
+  pub small : (x : ℕ) → x < length c.signals → IsSmall (shapes c x)
   pub comb : BlockKeeps (shapes c) (length c.signals) c.comb
   pub domains : EachOf (λ (d : Domain). BlockKeeps (shapes c) (length c.signals) d.stmts) c.domains
 
