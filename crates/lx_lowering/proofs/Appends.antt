@@ -12,6 +12,9 @@ pub taken_append : (s : Shapes) (v : Values) (a b : Block) → taken_block s v (
 taken_append s v Done b = refl
 taken_append s v (Then x xs) b = ap (λ ps. taken s v x ++ ps) (taken_append s v xs b) ∙ sym (append_assoc (taken s v x) (taken_block s v xs) (taken_block s v b))
 
+pub both_taken : (s : Shapes) (v : Values) (a b : Block) (ps qs : List Piece) → taken_block s v a ≡ ps → taken_block s v b ≡ qs → taken_block s v (append a b) ≡ ps ++ qs
+both_taken s v a b ps qs e f = taken_append s v a b ∙ ap (λ l. l ++ taken_block s v b) e ∙ ap (λ l. ps ++ l) f
+
 or_assoc : (x y z : Bool) → (x || (y || z)) ≡ ((x || y) || z)
 or_assoc true y z = refl
 or_assoc false y z = refl

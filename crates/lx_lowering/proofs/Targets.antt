@@ -21,7 +21,7 @@ use Rattle.lx_fhdl.specs.Nodes.{IsSmall}
 use Rattle.lx_lowering.specs.Terms.{never, is_item, lower_term}
 use Rattle.lx_lowering.specs.Flat.{append, one, when, some_when, without_low, is_last, item_assigns, assigns, parts_assigns, items_assigns}
 use Rattle.lx_lowering.specs.Lowering.{TermKeeps, TargetKeeps, TargetsKeep, some_targets}
-use Rattle.lx_lowering.proofs.Appends.{taken_append}
+use Rattle.lx_lowering.proofs.Appends.{both_taken}
 
 -- what lowering keeps of a term, its value aside
 pub record ShapeLaws (s : Shapes) (n : ℕ) : Type 0 where
@@ -189,9 +189,6 @@ last_skipped s v i zero own more x h = absurd (omega arith)
 last_skipped s v i (suc k) own more x h =
     ap (λ b. taken_block s v (cond b own (when (is_last s i (suc k)) own))) (ne_eqb (suc k) 0 (λ e. omega arith))
     ∙ when_taken s v (is_last s i (suc k)) own false (last_value s v i (suc k) x ∙ ap (λ b. flag (not b)) (lt-ltb (count_at s v i) (suc k) h))
-
-both_taken : (s : Shapes) (v : Values) (a b : Block) (ps qs : List Piece) → taken_block s v a ≡ ps → taken_block s v b ≡ qs → taken_block s v (append a b) ≡ ps ++ qs
-both_taken s v a b ps qs e f = taken_append s v a b ∙ ap (λ l. l ++ taken_block s v b) e ∙ ap (λ l. ps ++ l) f
 
 -- items past the index are skipped
 items_skipped : (s : Shapes) (v : Values) (i e : Term) (k : ℕ) (ts : Targets) → IsIndex s v i → count_at s v i < k → taken_block s v (items_assigns s k ts i e) ≡ []
