@@ -1,3 +1,4 @@
 pub mod Appends
 pub mod Branches
+pub mod FlatTaken
 pub mod Targets
