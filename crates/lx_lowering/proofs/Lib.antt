@@ -1,4 +1,5 @@
 pub mod Appends
 pub mod Branches
+pub mod FlatReads
 pub mod FlatTaken
 pub mod Targets
