@@ -1,7 +1,8 @@
 -- Flat statements keep what their statements kept, each has one branch, and they are no deeper.
 use Rattle.std.proofs.Common.{◌≡◌, ℕ, ℤ, pos, Bool, true, false, ◌&&◌, ◌||◌, not, cond, List, [], ◌∷◌, Option, Some, None, ◌+◌, ◌^◌, ◌≤◌, max, refl, sym, ◌∙◌, ap, subst, arith}
 use Rattle.std.specs.Prelude.{nat_eq, nat_lt, nat_le, min}
-use Rattle.std.proofs.lemmas.Bool.{ne_eqb, le-leb, and_from}
+use Rattle.std.proofs.lemmas.Bool.{ne_eqb, le-leb, and_from, and_parts, true≢false}
+use Rattle.std.proofs.lemmas.Bool.Decides.{nat_tests}
 use Rattle.lx_num.specs.declared.Shape.{Shape}
 use Rattle.lx_num.specs.Ints.{unsigned, shape}
 use Rattle.lx_tables.specs.declared.operators.Op.{Op}
@@ -200,3 +201,235 @@ mutual
   pub flat_block_keeps : (s : Shapes) (n : ℕ) → ShapeLaws s n → (b : Block) → BlockKeeps s n b → BlockKeeps s n (flat_block s b)
   flat_block_keeps s n laws Done p = tt
   flat_block_keeps s n laws (Then x xs) p = keeps_append s n (flat s x) (flat_block s xs) (flat_keeps s n laws x p.0) (flat_block_keeps s n laws xs p.1)
+
+-- ---- flat statements
+
+-- the signal, or some of its bits
+abbrev pub is_bare : Target → Bool
+is_bare (Whole x) = true
+is_bare (Part x low len) = true
+is_bare (CatTarget parts) = false
+is_bare (PickTarget items index) = false
+
+-- assignments to a signal or its bits, under conditions with one branch each
+abbrev mutual
+  pub is_flat : Stmt → Bool
+  is_flat (Assign t e) = is_bare t
+  is_flat (If bs rest) = is_lone bs rest && (branches_are_flat bs && are_flat rest)
+  is_flat (Case on arms rest) = false
+
+  pub branches_are_flat : Branches → Bool
+  branches_are_flat NoBranch = true
+  branches_are_flat (Branch c b more) = are_flat b && branches_are_flat more
+
+  pub are_flat : Block → Bool
+  are_flat Done = true
+  are_flat (Then s ss) = is_flat s && are_flat ss
+
+flat_append : (a b : Block) → are_flat a ≡ true → are_flat b ≡ true → are_flat (append a b) ≡ true
+flat_append Done b p q = q
+flat_append (Then x xs) b p q = let h = and_parts (is_flat x) (are_flat xs) p in and_from (is_flat x) (are_flat (append xs b)) h.0 (flat_append xs b h.1 q)
+
+some_append : (a b : Block) → is_done a ≡ false → is_done (append a b) ≡ false
+some_append Done b h = absurd (true≢false h)
+some_append (Then x xs) b h = refl
+
+when_is_flat : (c : Term) (so : Block) → is_done so ≡ false → are_flat so ≡ true → are_flat (when c so) ≡ true
+when_is_flat c Done h p = absurd (true≢false h)
+when_is_flat c (Then x xs) h p = same (are_flat (Then x xs)) p
+  where
+    same : (b : Bool) → b ≡ true → (((b && true) && true) && true) ≡ true
+    same b p = grind (arith, nat_tests)
+
+some_when_is_flat : (c : Term) (so : Block) → are_flat so ≡ true → are_flat (some_when c so) ≡ true
+some_when_is_flat c Done p = refl
+some_when_is_flat c (Then x xs) p = when_is_flat c (Then x xs) refl p
+
+item_some : (s : Shapes) (k : ℕ) (own more : Block) (i : Term) → is_done own ≡ false → is_done (item_assigns s k own NoTarget more i) ≡ false
+item_some s k own more i h = by_number (nat_eq k 0)
+  where
+    by_number : (b : Bool) → is_done (cond b own (when (is_last s i k) own)) ≡ false
+    by_number true = h
+    by_number false = refl
+
+item_is_flat : (s : Shapes) (k : ℕ) (own more : Block) (i : Term) → is_done own ≡ false → are_flat own ≡ true → are_flat (item_assigns s k own NoTarget more i) ≡ true
+item_is_flat s k own more i h p = by_number (nat_eq k 0)
+  where
+    by_number : (b : Bool) → are_flat (cond b own (when (is_last s i k) own)) ≡ true
+    by_number true = p
+    by_number false = when_is_flat (is_last s i k) own h p
+
+mutual
+  -- a target has assignments
+  assigns_some : (s : Shapes) (n : ℕ) (t : Target) → TargetKeeps s n t → (e : Term) → is_done (assigns s t e) ≡ false
+  assigns_some s n (Whole x) p e = refl
+  assigns_some s n (Part x low len) p e = refl
+  assigns_some s n (CatTarget parts) p e = parts_some s n parts p.0 p.1 e
+  assigns_some s n (PickTarget items index) p e = items_some s n 0 items p.0 p.1 (lower_term s index) e
+
+  parts_some : (s : Shapes) (n : ℕ) (ts : Targets) → some_targets ts ≡ true → TargetsKeep s n ts → (e : Term) → is_done (parts_assigns s ts e) ≡ false
+  parts_some s n NoTarget h p e = absurd (true≢false (sym h))
+  parts_some s n (MoreTargets t ts) h p e = some_append (assigns s t e) (parts_assigns s ts (without_low s (target_bits s t) e)) (assigns_some s n t p.0 e)
+
+  items_some : (s : Shapes) (n k : ℕ) (ts : Targets) → some_targets ts ≡ true → TargetsKeep s n ts → (i e : Term) → is_done (items_assigns s k ts i e) ≡ false
+  items_some s n k NoTarget h p i e = absurd (true≢false (sym h))
+  items_some s n k (MoreTargets t NoTarget) h p i e = item_some s k (assigns s t e) (items_assigns s (k + 1) NoTarget i e) i (assigns_some s n t p.0 e)
+  items_some s n k (MoreTargets t (MoreTargets u us)) h p i e = some_append (when (is_item s i k) (assigns s t e)) (items_assigns s (k + 1) (MoreTargets u us) i e) refl
+
+mutual
+  assigns_are_flat : (s : Shapes) (n : ℕ) (t : Target) → TargetKeeps s n t → (e : Term) → are_flat (assigns s t e) ≡ true
+  assigns_are_flat s n (Whole x) p e = refl
+  assigns_are_flat s n (Part x low len) p e = refl
+  assigns_are_flat s n (CatTarget parts) p e = parts_are_flat s n parts p.1 e
+  assigns_are_flat s n (PickTarget items index) p e = items_are_flat s n 0 items p.1 (lower_term s index) e
+
+  parts_are_flat : (s : Shapes) (n : ℕ) (ts : Targets) → TargetsKeep s n ts → (e : Term) → are_flat (parts_assigns s ts e) ≡ true
+  parts_are_flat s n NoTarget p e = refl
+  parts_are_flat s n (MoreTargets t ts) p e =
+      flat_append (assigns s t e) (parts_assigns s ts (without_low s (target_bits s t) e)) (assigns_are_flat s n t p.0 e) (parts_are_flat s n ts p.1 (without_low s (target_bits s t) e))
+
+  items_are_flat : (s : Shapes) (n k : ℕ) (ts : Targets) → TargetsKeep s n ts → (i e : Term) → are_flat (items_assigns s k ts i e) ≡ true
+  items_are_flat s n k NoTarget p i e = refl
+  items_are_flat s n k (MoreTargets t NoTarget) p i e =
+      item_is_flat s k (assigns s t e) (items_assigns s (k + 1) NoTarget i e) i (assigns_some s n t p.0 e) (assigns_are_flat s n t p.0 e)
+  items_are_flat s n k (MoreTargets t (MoreTargets u us)) p i e =
+      flat_append (when (is_item s i k) (assigns s t e)) (items_assigns s (k + 1) (MoreTargets u us) i e)
+      (when_is_flat (is_item s i k) (assigns s t e) (assigns_some s n t p.0 e) (assigns_are_flat s n t p.0 e)) (items_are_flat s n (k + 1) (MoreTargets u us) p.1 i e)
+
+lone_is_flat : (c : Term) (b chained rest : Block) → are_flat b ≡ true → are_flat rest ≡ true → are_flat (first_branch c b NoBranch chained rest) ≡ true
+lone_is_flat c Done chained Done p q = refl
+lone_is_flat c Done chained (Then x xs) p q = same (are_flat (Then x xs)) q
+  where
+    same : (b : Bool) → b ≡ true → (b && true) ≡ true
+    same b p = grind (arith, nat_tests)
+lone_is_flat c (Then y ys) chained rest p q = same (are_flat (Then y ys)) (are_flat rest) p q
+  where
+    same : (b d : Bool) → b ≡ true → d ≡ true → (((b && true) && d) && true) ≡ true
+    same b d p q = grind (arith, nat_tests)
+
+otherwise_is_flat : (none : Option Term) (rest : Block) → are_flat rest ≡ true → are_flat (otherwise none rest) ≡ true
+otherwise_is_flat None rest p = p
+otherwise_is_flat (Some c) rest p = some_when_is_flat c rest p
+
+mutual
+  pub flat_is_flat : (s : Shapes) (n : ℕ) (x : Stmt) → StmtKeeps s n x → are_flat (flat s x) ≡ true
+  flat_is_flat s n (Assign t e) p = assigns_are_flat s n t p.0 (lower_term s e)
+  flat_is_flat s n (If bs rest) p = if_is_flat s n bs p.0 (flat_block s rest) (flat_block_is_flat s n rest p.1)
+  flat_is_flat s n (Case on arms rest) p = arms_are_flat s n (lower_term s on) [] None arms p.1 (flat_block s rest) (flat_block_is_flat s n rest p.2)
+
+  if_is_flat : (s : Shapes) (n : ℕ) (bs : Branches) → BranchesKeep s n bs → (rest : Block) → are_flat rest ≡ true → are_flat (flat_if s bs rest) ≡ true
+  if_is_flat s n NoBranch p rest r = r
+  if_is_flat s n (Branch c b NoBranch) p rest r =
+      lone_is_flat (lower_term s c) (flat_block s b) (flat_chain s (fails s (lower_term s c)) NoBranch rest) rest (flat_block_is_flat s n b p.1) r
+  if_is_flat s n (Branch c b (Branch d e more)) p rest r =
+      let x = lower_term s c in
+      flat_append (some_when x (flat_block s b)) (flat_chain s (fails s x) (Branch d e more) rest) (some_when_is_flat x (flat_block s b) (flat_block_is_flat s n b p.1)) (chain_is_flat s n (fails s x) (Branch d e more) p.2 rest r)
+
+  chain_is_flat : (s : Shapes) (n : ℕ) (none : Term) (bs : Branches) → BranchesKeep s n bs → (rest : Block) → are_flat rest ≡ true → are_flat (flat_chain s none bs rest) ≡ true
+  chain_is_flat s n none NoBranch p rest r = some_when_is_flat none rest r
+  chain_is_flat s n none (Branch c b more) p rest r =
+      let x = lower_term s c in
+      flat_append (some_when (Binary op.And none (holds s x)) (flat_block s b)) (flat_chain s (Binary op.And none (fails s x)) more rest)
+      (some_when_is_flat (Binary op.And none (holds s x)) (flat_block s b) (flat_block_is_flat s n b p.1)) (chain_is_flat s n (Binary op.And none (fails s x)) more p.2 rest r)
+
+  arms_are_flat : (s : Shapes) (n : ℕ) (on : Term) (seen : List ℤ) (none : Option Term) (arms : Arms) → ArmsKeep s n arms → (rest : Block) → are_flat rest ≡ true → are_flat (flat_arms s on seen none arms rest) ≡ true
+  arms_are_flat s n on seen none NoArm p rest r = otherwise_is_flat none rest r
+  arms_are_flat s n on seen none (Arm key b more) p rest r =
+      flat_append (some_when (is_key s on seen key) (flat_block s b)) (flat_arms s on (key ∷ seen) (no_key s on seen none key) more rest)
+      (some_when_is_flat (is_key s on seen key) (flat_block s b) (flat_block_is_flat s n b p.0)) (arms_are_flat s n on (key ∷ seen) (no_key s on seen none key) more p.1 rest r)
+
+  pub flat_block_is_flat : (s : Shapes) (n : ℕ) (b : Block) → BlockKeeps s n b → are_flat (flat_block s b) ≡ true
+  flat_block_is_flat s n Done p = refl
+  flat_block_is_flat s n (Then x xs) p = flat_append (flat s x) (flat_block s xs) (flat_is_flat s n x p.0) (flat_block_is_flat s n xs p.1)
+
+-- ---- how deep flat statements nest
+
+append_depth : (a b : Block) (n : ℕ) → block_depth a ≤ n → block_depth b ≤ n → block_depth (append a b) ≤ n
+append_depth a b n p q = omega (arith, depth_append a b)
+
+when_depth : (c : Term) (so : Block) (n : ℕ) → 1 + block_depth so ≤ n → block_depth (when c so) ≤ n
+when_depth c so n p = omega arith
+
+some_when_depth : (c : Term) (so : Block) (n : ℕ) → 1 + block_depth so ≤ n → block_depth (some_when c so) ≤ n
+some_when_depth c Done n p = omega arith
+some_when_depth c (Then x xs) n p = when_depth c (Then x xs) n p
+
+item_depth : (s : Shapes) (k : ℕ) (own more : Block) (i : Term) (n : ℕ) → 1 + block_depth own ≤ n → block_depth (item_assigns s k own NoTarget more i) ≤ n
+item_depth s k own more i n p = by_number (nat_eq k 0)
+  where
+    by_number : (b : Bool) → block_depth (cond b own (when (is_last s i k) own)) ≤ n
+    by_number true = omega arith
+    by_number false = when_depth (is_last s i k) own n p
+
+mutual
+  assigns_depth : (s : Shapes) (t : Target) (e : Term) → block_depth (assigns s t e) ≤ 1 + target_depth t
+  assigns_depth s (Whole x) e = omega arith
+  assigns_depth s (Part x low len) e = omega arith
+  assigns_depth s (CatTarget parts) e = parts_depth s parts e
+  assigns_depth s (PickTarget items index) e = omega (arith, items_depth s 0 items (lower_term s index) e)
+
+  parts_depth : (s : Shapes) (ts : Targets) (e : Term) → block_depth (parts_assigns s ts e) ≤ 1 + targets_depth ts
+  parts_depth s NoTarget e = omega arith
+  parts_depth s (MoreTargets t ts) e =
+      let later = without_low s (target_bits s t) e in
+      let p = assigns_depth s t e in
+      let q = parts_depth s ts later in
+      append_depth (assigns s t e) (parts_assigns s ts later) (1 + targets_depth (MoreTargets t ts)) (omega arith) (omega arith)
+
+  items_depth : (s : Shapes) (k : ℕ) (ts : Targets) (i e : Term) → block_depth (items_assigns s k ts i e) ≤ 2 + targets_depth ts
+  items_depth s k NoTarget i e = omega arith
+  items_depth s k (MoreTargets t NoTarget) i e =
+      let p = assigns_depth s t e in
+      item_depth s k (assigns s t e) (items_assigns s (k + 1) NoTarget i e) i (2 + targets_depth (MoreTargets t NoTarget)) (omega arith)
+  items_depth s k (MoreTargets t (MoreTargets u us)) i e =
+      let p = assigns_depth s t e in
+      let q = items_depth s (k + 1) (MoreTargets u us) i e in
+      append_depth (when (is_item s i k) (assigns s t e)) (items_assigns s (k + 1) (MoreTargets u us) i e) (2 + targets_depth (MoreTargets t (MoreTargets u us)))
+      (when_depth (is_item s i k) (assigns s t e) (2 + targets_depth (MoreTargets t (MoreTargets u us))) (omega arith)) (omega arith)
+
+lone_depth : (c : Term) (b chained rest : Block) (n : ℕ) → 1 + max (block_depth b) (block_depth rest) ≤ n → block_depth (first_branch c b NoBranch chained rest) ≤ n
+lone_depth c Done chained Done n p = omega arith
+lone_depth c Done chained (Then x xs) n p = omega arith
+lone_depth c (Then y ys) chained rest n p = omega arith
+
+otherwise_depth : (none : Option Term) (rest : Block) (n : ℕ) → 1 + block_depth rest ≤ n → block_depth (otherwise none rest) ≤ n
+otherwise_depth None rest n p = omega arith
+otherwise_depth (Some c) rest n p = some_when_depth c rest n p
+
+mutual
+  pub flat_depth : (s : Shapes) (x : Stmt) → block_depth (flat s x) ≤ stmt_depth x
+  flat_depth s (Assign t e) = assigns_depth s t (lower_term s e)
+  flat_depth s (If bs rest) = let p = flat_block_depth s rest in if_depth s bs (flat_block s rest) (stmt_depth (If bs rest)) (omega arith) (omega arith)
+  flat_depth s (Case on arms rest) = let p = flat_block_depth s rest in flat_arms_depth s (lower_term s on) [] None arms (flat_block s rest) (stmt_depth (Case on arms rest)) (omega arith) (omega arith)
+
+  if_depth : (s : Shapes) (bs : Branches) (rest : Block) (n : ℕ) → 1 + branches_depth bs ≤ n → 1 + block_depth rest ≤ n → block_depth (flat_if s bs rest) ≤ n
+  if_depth s NoBranch rest n p q = omega arith
+  if_depth s (Branch c b NoBranch) rest n p q =
+      let r = flat_block_depth s b in
+      lone_depth (lower_term s c) (flat_block s b) (flat_chain s (fails s (lower_term s c)) NoBranch rest) rest n (omega arith)
+  if_depth s (Branch c b (Branch d e more)) rest n p q =
+      let x = lower_term s c in
+      let r = flat_block_depth s b in
+      append_depth (some_when x (flat_block s b)) (flat_chain s (fails s x) (Branch d e more) rest) n (some_when_depth x (flat_block s b) n (omega arith)) (chain_depth s (fails s x) (Branch d e more) rest n (omega arith) q)
+
+  chain_depth : (s : Shapes) (none : Term) (bs : Branches) (rest : Block) (n : ℕ) → 1 + branches_depth bs ≤ n → 1 + block_depth rest ≤ n → block_depth (flat_chain s none bs rest) ≤ n
+  chain_depth s none NoBranch rest n p q = some_when_depth none rest n q
+  chain_depth s none (Branch c b more) rest n p q =
+      let x = lower_term s c in
+      let r = flat_block_depth s b in
+      append_depth (some_when (Binary op.And none (holds s x)) (flat_block s b)) (flat_chain s (Binary op.And none (fails s x)) more rest) n
+      (some_when_depth (Binary op.And none (holds s x)) (flat_block s b) n (omega arith)) (chain_depth s (Binary op.And none (fails s x)) more rest n (omega arith) q)
+
+  flat_arms_depth : (s : Shapes) (on : Term) (seen : List ℤ) (none : Option Term) (arms : Arms) (rest : Block) (n : ℕ) → 1 + arms_depth arms ≤ n → 1 + block_depth rest ≤ n → block_depth (flat_arms s on seen none arms rest) ≤ n
+  flat_arms_depth s on seen none NoArm rest n p q = otherwise_depth none rest n q
+  flat_arms_depth s on seen none (Arm key b more) rest n p q =
+      let r = flat_block_depth s b in
+      append_depth (some_when (is_key s on seen key) (flat_block s b)) (flat_arms s on (key ∷ seen) (no_key s on seen none key) more rest) n
+      (some_when_depth (is_key s on seen key) (flat_block s b) n (omega arith)) (flat_arms_depth s on (key ∷ seen) (no_key s on seen none key) more rest n (omega arith) q)
+
+  pub flat_block_depth : (s : Shapes) (b : Block) → block_depth (flat_block s b) ≤ block_depth b
+  flat_block_depth s Done = omega arith
+  flat_block_depth s (Then x xs) =
+      let p = flat_depth s x in
+      let q = flat_block_depth s xs in
+      append_depth (flat s x) (flat_block s xs) (block_depth (Then x xs)) (omega arith) (omega arith)
