@@ -1,5 +1,5 @@
 -- Branches and arms, each under its own condition: what the conditions are, and what one step takes.
-use Rattle.std.proofs.Common.{◌≡◌, ℕ, ℤ, pos, negsuc, Bool, true, false, ◌&&◌, ◌||◌, not, cond, List, [], ◌∷◌, ◌++◌, Option, Some, None, ◌≤◌, refl, sym, ◌∙◌, ap, subst}
+use Rattle.std.proofs.Common.{◌≡◌, ℤ, pos, Bool, true, false, ◌&&◌, ◌||◌, not, cond, List, [], ◌∷◌, ◌++◌, Option, Some, None, refl, sym, ◌∙◌, ap, subst}
 use Rattle.std.specs.Ordering.{int_eq}
 use Rattle.std.proofs.lemmas.Bool.{and_parts, true≢false}
 use Rattle.std.proofs.lemmas.Bool.Decides.{Decides-int_eq, same_from_decides}
@@ -9,7 +9,7 @@ use Rattle.lx_num.specs.Ints.{wrapped, Fits}
 use Rattle.lx_num.specs.Bits.{int_and}
 use Rattle.lx_num.proofs.Ranges.{wrap_bits_same}
 use Rattle.lx_tables.specs.declared.operators.Op.TheVariants as op
-use Rattle.lx_circuit.specs.Terms.{Term, Constant, Binary}
+use Rattle.lx_circuit.specs.Terms.{Term, Binary}
 use Rattle.lx_circuit.specs.Shapes.{Shapes, shape_of}
 use Rattle.lx_circuit.specs.Values.{Values, value_of, is_zero, flag}
 use Rattle.lx_circuit.specs.Statements.{Branches, NoBranch, Branch, Block, Done, Then, Piece, taken_block}

@@ -1,16 +1,17 @@
 -- Flat statements drive the same signals, and read no others.
-use Rattle.std.proofs.Common.{◌≡◌, ℕ, ℤ, Bool, true, false, ◌&&◌, ◌||◌, not, cond, List, [], ◌∷◌, Option, Some, None, ◌+◌, refl, sym, ◌∙◌, ap, subst, arith, inl, inr}
+use Rattle.std.proofs.Common.{◌≡◌, ℕ, ℤ, Bool, true, false, ◌&&◌, ◌||◌, not, cond, List, [], ◌∷◌, Option, Some, None, ◌+◌, refl, sym, ◌∙◌, ap, arith, inl, inr}
 use Rattle.std.specs.Prelude.{nat_eq, nat_lt, ◌^◌, pos}
 use Rattle.std.proofs.lemmas.Bool.{or_cases, or_left, or_right, false≢true}
 use Rattle.std.proofs.lemmas.Bool.Decides.{nat_tests}
+use Rattle.std.proofs.Math.Bool.{or_assoc, or-false}
 use Rattle.lx_tables.specs.declared.operators.Op.TheVariants as op
 use Rattle.lx_circuit.specs.Terms.{Term, Constant, Binary}
 use Rattle.lx_circuit.specs.Shapes.{Shapes, shape_of}
 use Rattle.lx_circuit.specs.Statements.{Target, Targets, Whole, Part, CatTarget, PickTarget, NoTarget, MoreTargets, Stmt, Assign, If, Case, Branches, NoBranch, Branch, Arms, NoArm, Arm, Block, Done, Then, is_target, some_target, drives, drives_branch, drives_arm, drives_block, target_bits}
 use Rattle.lx_circuit.specs.Reads.{names, target_names, targets_name, reads, reads_branch, reads_arm, reads_block}
 use Rattle.lx_lowering.specs.Terms.{never, is_item, lower_term}
-use Rattle.lx_lowering.specs.Flat.{append, one, when, some_when, holds, fails, without_low, is_last, item_assigns, assigns, parts_assigns, items_assigns, first_branch, is_among_keys, is_value, key_of, is_key, and_none, no_key, otherwise, flat, flat_if, flat_chain, flat_arms, flat_block}
-use Rattle.lx_lowering.specs.Lowering.{TargetKeeps, TargetsKeep, TermKeeps, StmtKeeps, BranchesKeep, ArmsKeep, BlockKeeps}
+use Rattle.lx_lowering.specs.Flat.{append, when, some_when, holds, fails, without_low, is_last, item_assigns, assigns, parts_assigns, items_assigns, first_branch, is_among_keys, is_value, key_of, is_key, and_none, no_key, otherwise, flat, flat_if, flat_chain, flat_arms, flat_block}
+use Rattle.lx_lowering.specs.Lowering.{TargetKeeps, TargetsKeep, StmtKeeps, BranchesKeep, ArmsKeep, BlockKeeps}
 use Rattle.lx_lowering.proofs.Appends.{drives_append, reads_append}
 use Rattle.lx_lowering.proofs.Targets.{ShapeLaws}
 
@@ -31,10 +32,6 @@ drives_some_when y c (Then x xs) = drives_when y c (Then x xs)
 both_drive : (y : ℕ) (a b : Block) (p q : Bool) → drives_block y a ≡ p → drives_block y b ≡ q → drives_block y (append a b) ≡ (p || q)
 both_drive y a b p q e f = drives_append y a b ∙ ap (λ d. d || drives_block y b) e ∙ ap (λ d. p || d) f
 
-or_none : (b : Bool) → (b || false) ≡ b
-or_none true = refl
-or_none false = refl
-
 drives_item : (s : Shapes) (y k : ℕ) (own more : Block) (i : Term) → drives_block y (item_assigns s k own NoTarget more i) ≡ drives_block y own
 drives_item s y k own more i = by_number (nat_eq k 0)
   where
@@ -44,8 +41,8 @@ drives_item s y k own more i = by_number (nat_eq k 0)
 
 mutual
   pub assigns_drive : (s : Shapes) (y : ℕ) (t : Target) (e : Term) → drives_block y (assigns s t e) ≡ is_target y t
-  assigns_drive s y (Whole x) e = or_none (nat_eq x y)
-  assigns_drive s y (Part x low len) e = or_none (nat_eq x y)
+  assigns_drive s y (Whole x) e = or-false (nat_eq x y)
+  assigns_drive s y (Part x low len) e = or-false (nat_eq x y)
   assigns_drive s y (CatTarget parts) e = parts_drive s y parts e
   assigns_drive s y (PickTarget items index) e = items_drive s y 0 items (lower_term s index) e
 
@@ -56,23 +53,19 @@ mutual
 
   items_drive : (s : Shapes) (y k : ℕ) (ts : Targets) (i e : Term) → drives_block y (items_assigns s k ts i e) ≡ some_target y ts
   items_drive s y k NoTarget i e = refl
-  items_drive s y k (MoreTargets t NoTarget) i e = drives_item s y k (assigns s t e) (items_assigns s (k + 1) NoTarget i e) i ∙ assigns_drive s y t e ∙ sym (or_none (is_target y t))
+  items_drive s y k (MoreTargets t NoTarget) i e = drives_item s y k (assigns s t e) (items_assigns s (k + 1) NoTarget i e) i ∙ assigns_drive s y t e ∙ sym (or-false (is_target y t))
   items_drive s y k (MoreTargets t (MoreTargets u us)) i e =
       both_drive y (when (is_item s i k) (assigns s t e)) (items_assigns s (k + 1) (MoreTargets u us) i e) (is_target y t) (some_target y (MoreTargets u us))
       (drives_when y (is_item s i k) (assigns s t e) ∙ assigns_drive s y t e) (items_drive s y (k + 1) (MoreTargets u us) i e)
 
 lone_drives : (y : ℕ) (c : Term) (b chained rest : Block) → drives_block y (first_branch c b NoBranch chained rest) ≡ (drives_block y b || drives_block y rest)
 lone_drives y c Done chained Done = refl
-lone_drives y c Done chained (Then x xs) = or_none (drives_block y (Then x xs))
+lone_drives y c Done chained (Then x xs) = or-false (drives_block y (Then x xs))
 lone_drives y c (Then z zs) chained rest = same (drives_block y (Then z zs)) (drives_block y rest)
   where
     same : (b d : Bool) → (((b || false) || d) || false) ≡ (b || d)
     same true d = refl
-    same false d = or_none d
-
-or_first : (a b c : Bool) → (a || (b || c)) ≡ ((a || b) || c)
-or_first true b c = refl
-or_first false b c = refl
+    same false d = or-false d
 
 otherwise_drives : (y : ℕ) (none : Option Term) (rest : Block) → drives_block y (otherwise none rest) ≡ drives_block y rest
 otherwise_drives y None rest = refl
@@ -88,12 +81,12 @@ mutual
   if_drives s y NoBranch rest = refl
   if_drives s y (Branch c b NoBranch) rest =
       lone_drives y (lower_term s c) (flat_block s b) (flat_chain s (fails s (lower_term s c)) NoBranch rest) rest
-      ∙ ap (λ d. d || drives_block y rest) (flat_block_drives s y b ∙ sym (or_none (drives_block y b)))
+      ∙ ap (λ d. d || drives_block y rest) (flat_block_drives s y b ∙ sym (or-false (drives_block y b)))
   if_drives s y (Branch c b (Branch d e more)) rest =
       both_drive y (some_when (lower_term s c) (flat_block s b)) (flat_chain s (fails s (lower_term s c)) (Branch d e more) rest) (drives_block y b) (drives_branch y (Branch d e more) || drives_block y rest)
       (drives_some_when y (lower_term s c) (flat_block s b) ∙ flat_block_drives s y b)
       (chain_drives s y (fails s (lower_term s c)) (Branch d e more) rest)
-      ∙ or_first (drives_block y b) (drives_branch y (Branch d e more)) (drives_block y rest)
+      ∙ sym (or_assoc (drives_block y b) (drives_branch y (Branch d e more)) (drives_block y rest))
 
   chain_drives : (s : Shapes) (y : ℕ) (none : Term) (bs : Branches) (rest : Block) → drives_block y (flat_chain s none bs rest) ≡ (drives_branch y bs || drives_block y rest)
   chain_drives s y none NoBranch rest = drives_some_when y none rest
@@ -103,7 +96,7 @@ mutual
       both_drive y (some_when holding (flat_block s b)) (flat_chain s failing more rest) (drives_block y b) (drives_branch y more || drives_block y rest)
       (drives_some_when y holding (flat_block s b) ∙ flat_block_drives s y b)
       (chain_drives s y failing more rest)
-      ∙ or_first (drives_block y b) (drives_branch y more) (drives_block y rest)
+      ∙ sym (or_assoc (drives_block y b) (drives_branch y more) (drives_block y rest))
 
   arms_drive : (s : Shapes) (y : ℕ) (on : Term) (seen : List ℤ) (none : Option Term) (arms : Arms) (rest : Block) → drives_block y (flat_arms s on seen none arms rest) ≡ (drives_arm y arms || drives_block y rest)
   arms_drive s y on seen none NoArm rest = otherwise_drives y none rest
@@ -111,7 +104,7 @@ mutual
       both_drive y (some_when (is_key s on seen key) (flat_block s b)) (flat_arms s on (key ∷ seen) (no_key s on seen none key) more rest) (drives_block y b) (drives_arm y more || drives_block y rest)
       (drives_some_when y (is_key s on seen key) (flat_block s b) ∙ flat_block_drives s y b)
       (arms_drive s y on (key ∷ seen) (no_key s on seen none key) more rest)
-      ∙ or_first (drives_block y b) (drives_arm y more) (drives_block y rest)
+      ∙ sym (or_assoc (drives_block y b) (drives_arm y more) (drives_block y rest))
 
   pub flat_block_drives : (s : Shapes) (y : ℕ) (b : Block) → drives_block y (flat_block s b) ≡ drives_block y b
   flat_block_drives s y Done = refl
@@ -124,14 +117,14 @@ item_names : (s : Shapes) (y k : ℕ) (i : Term) → names y (is_item s i k) ≡
 item_names s y k i = by_number (nat_lt k (2 ^ (shape_of s i).bits))
   where
     by_number : (b : Bool) → names y (cond b (Binary op.Eq i (Constant (pos k) (shape_of s i))) never) ≡ true → names y i ≡ true
-    by_number true h = sym (or_none (names y i)) ∙ h
+    by_number true h = sym (or-false (names y i)) ∙ h
     by_number false h = absurd (false≢true h)
 
 last_names : (s : Shapes) (y k : ℕ) (i : Term) → names y (is_last s i k) ≡ true → names y i ≡ true
 last_names s y k i = by_number (nat_lt k (2 ^ (shape_of s i).bits))
   where
     by_number : (b : Bool) → names y (cond b (Binary op.Ge i (Constant (pos k) (shape_of s i))) never) ≡ true → names y i ≡ true
-    by_number true h = sym (or_none (names y i)) ∙ h
+    by_number true h = sym (or-false (names y i)) ∙ h
     by_number false h = absurd (false≢true h)
 
 -- what is read under a condition: m says that it names the signal, or what it is made of
@@ -150,7 +143,7 @@ either_reads : (x y : ℕ) (a b : Block) (g : Bool) → (reads_block x y a ≡ t
 either_reads x y a b g f k h = elim (or_cases (reads_block x y a) (reads_block x y b) (sym (reads_append x y a b) ∙ h)) [ inl p ↦ f p | inr p ↦ k p ]
 
 whole_reads : (d e : Bool) → ((d && (e || false)) || false) ≡ true → (d && (e || false)) ≡ true
-whole_reads d e h = sym (or_none (d && (e || false))) ∙ h
+whole_reads d e h = sym (or-false (d && (e || false))) ∙ h
 
 part_first : (d ds e n ns : Bool) → (d && (e || n)) ≡ true → ((d || ds) && (e || (n || ns))) ≡ true
 part_first d ds e n ns h = grind (arith, nat_tests)
@@ -215,8 +208,8 @@ mutual
 lone_reads : (x y : ℕ) (c : Term) (b chained rest : Block) → reads_block x y (first_branch c b NoBranch chained rest) ≡ true
     → ((names y c && (drives_block x b || (false || drives_block x rest))) || (reads_block x y b || reads_block x y rest)) ≡ true
 lone_reads x y c Done chained Done h = absurd (false≢true h)
-lone_reads x y c Done chained (Then t ts) h = sym (or_none ((names y c && (false || (false || drives_block x (Then t ts)))) || (false || reads_block x y (Then t ts)))) ∙ h
-lone_reads x y c (Then u us) chained rest h = sym (or_none ((names y c && (drives_block x (Then u us) || (false || drives_block x rest))) || (reads_block x y (Then u us) || reads_block x y rest))) ∙ h
+lone_reads x y c Done chained (Then t ts) h = sym (or-false ((names y c && (false || (false || drives_block x (Then t ts)))) || (false || reads_block x y (Then t ts)))) ∙ h
+lone_reads x y c (Then u us) chained rest h = sym (or-false ((names y c && (drives_block x (Then u us) || (false || drives_block x rest))) || (reads_block x y (Then u us) || reads_block x y rest))) ∙ h
 
 -- c: the condition names the signal, d: the branch drives x, ds: further branches do, dr: the rest does, and r, rs, q: they read it; with a prime in the flat statements
 lone_step : (c c' d d' dr r r' q q' : Bool) → (c' ≡ true → c ≡ true) → d' ≡ d → (r' ≡ true → r ≡ true) → (q' ≡ true → q ≡ true)
@@ -254,7 +247,7 @@ key_names : (s : Shapes) (y : ℕ) (on : Term) (seen : List ℤ) (key : ℤ) →
 key_names s y on seen key = by_test (is_value s on key && not (is_among_keys key seen))
   where
     by_test : (b : Bool) → names y (cond b (Binary op.Eq on (key_of s on key)) never) ≡ true → names y on ≡ true
-    by_test true h = sym (or_none (names y on)) ∙ h
+    by_test true h = sym (or-false (names y on)) ∙ h
     by_test false h = absurd (false≢true h)
 
 abbrev some_names_it : ℕ → Option Term → Bool
@@ -265,8 +258,8 @@ no_key_names : (s : Shapes) (y : ℕ) (on : Term) (seen : List ℤ) (none : Opti
 no_key_names s y on seen none key f = by_test (is_value s on key && not (is_among_keys key seen)) none f
   where
     by_test : (b : Bool) (before : Option Term) → (some_names_it y before ≡ true → names y on ≡ true) → some_names_it y (cond b (and_none before (Binary op.Ne on (key_of s on key))) before) ≡ true → names y on ≡ true
-    by_test true None f h = sym (or_none (names y on)) ∙ h
-    by_test true (Some c) f h = elim (or_cases (names y c) (names y on || false) h) [ inl p ↦ f p | inr p ↦ sym (or_none (names y on)) ∙ p ]
+    by_test true None f h = sym (or-false (names y on)) ∙ h
+    by_test true (Some c) f h = elim (or_cases (names y c) (names y on || false) h) [ inl p ↦ f p | inr p ↦ sym (or-false (names y on)) ∙ p ]
     by_test false before f h = f h
 
 otherwise_reads : (x y : ℕ) (none : Option Term) (rest : Block) (o : Bool) → (some_names_it y none ≡ true → o ≡ true) → reads_block x y (otherwise none rest) ≡ true → ((o && drives_block x rest) || reads_block x y rest) ≡ true

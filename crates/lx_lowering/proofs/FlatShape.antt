@@ -1,11 +1,10 @@
 -- Flat statements keep what their statements kept, each has one branch, and they are no deeper.
-use Rattle.std.proofs.Common.{◌≡◌, ℕ, ℤ, pos, Bool, true, false, ◌&&◌, ◌||◌, not, cond, List, [], ◌∷◌, Option, Some, None, ◌+◌, ◌^◌, ◌≤◌, max, refl, sym, ◌∙◌, ap, subst, arith}
-use Rattle.std.specs.Prelude.{nat_eq, nat_lt, nat_le, min}
+use Rattle.std.proofs.Common.{◌≡◌, ℕ, ℤ, pos, Bool, true, false, ◌&&◌, not, cond, List, [], ◌∷◌, Option, Some, None, ◌+◌, ◌^◌, ◌≤◌, max, refl, sym, ◌∙◌, ap, arith}
+use Rattle.std.specs.Prelude.{nat_eq, nat_lt, min}
 use Rattle.std.proofs.lemmas.Bool.{ne_eqb, le-leb, and_from, and_parts, true≢false}
 use Rattle.std.proofs.lemmas.Bool.Decides.{nat_tests}
 use Rattle.lx_num.specs.declared.Shape.{Shape}
 use Rattle.lx_num.specs.Ints.{unsigned, shape}
-use Rattle.lx_tables.specs.declared.operators.Op.{Op}
 use Rattle.lx_tables.specs.declared.operators.Op.TheVariants as op
 use Rattle.lx_circuit.specs.declared.WidthFault.{WidthFault}
 use Rattle.lx_circuit.specs.declared.WidthFault.TheVariants.{TooWide, BadWidth}
@@ -16,7 +15,7 @@ use Rattle.lx_fhdl.specs.Nodes.{IsSmall}
 use Rattle.lx_fhdl.specs.Keeping.{target_depth, targets_depth, stmt_depth, branches_depth, arms_depth, block_depth}
 use Rattle.lx_fhdl.specs.Lowered.{is_done, is_lone}
 use Rattle.lx_lowering.specs.Terms.{never, is_item, lower_term}
-use Rattle.lx_lowering.specs.Flat.{append, one, when, some_when, zero_of, holds, fails, without_low, is_last, item_assigns, assigns, parts_assigns, items_assigns, first_branch, is_among_keys, is_value, key_of, is_key, and_none, no_key, otherwise, flat, flat_if, flat_chain, flat_arms, flat_block}
+use Rattle.lx_lowering.specs.Flat.{append, when, some_when, holds, fails, without_low, is_last, item_assigns, assigns, parts_assigns, items_assigns, first_branch, is_among_keys, is_value, key_of, is_key, and_none, no_key, otherwise, flat, flat_if, flat_chain, flat_arms, flat_block}
 use Rattle.lx_lowering.specs.Lowering.{is_sound, some_targets, TargetKeeps, TargetsKeep, TermKeeps, StmtKeeps, BranchesKeep, ArmsKeep, BlockKeeps}
 use Rattle.lx_lowering.proofs.Appends.{keeps_append, depth_append}
 use Rattle.lx_lowering.proofs.Targets.{ShapeLaws, without_low_keeps}

@@ -1,15 +1,15 @@
 -- Flat statements take the same assignments, in the same order.
-use Rattle.std.proofs.Common.{◌≡◌, ℕ, ℤ, Bool, true, false, ◌&&◌, ◌||◌, not, cond, List, [], ◌∷◌, ◌++◌, Option, Some, None, refl, sym, ◌∙◌, ap}
+use Rattle.std.proofs.Common.{◌≡◌, ℕ, ℤ, Bool, ◌&&◌, ◌||◌, not, cond, List, [], ◌∷◌, Option, None, refl, ◌∙◌, ap}
 use Rattle.std.specs.Ordering.{int_eq}
 use Rattle.lx_num.specs.Ints.{Fits}
 use Rattle.lx_tables.specs.declared.operators.Op.TheVariants as op
 use Rattle.lx_circuit.specs.Terms.{Term, Binary}
 use Rattle.lx_circuit.specs.Shapes.{Shapes, shape_of}
 use Rattle.lx_circuit.specs.Values.{Values, value_of, is_zero, flag}
-use Rattle.lx_circuit.specs.Statements.{Target, Stmt, Assign, If, Case, Branches, NoBranch, Branch, Arms, NoArm, Arm, Block, Done, Then, Piece, pieces, taken, taken_branch, taken_arm, taken_block}
+use Rattle.lx_circuit.specs.Statements.{Stmt, Assign, If, Case, Branches, NoBranch, Branch, Arms, NoArm, Arm, Block, Done, Then, Piece, pieces, taken, taken_branch, taken_arm, taken_block}
 use Rattle.lx_fhdl.specs.Nodes.{IsSmall}
 use Rattle.lx_lowering.specs.Terms.{lower_term}
-use Rattle.lx_lowering.specs.Flat.{append, some_when, holds, fails, is_among_keys, is_key, no_key, otherwise, flat, flat_if, flat_chain, flat_arms, flat_block}
+use Rattle.lx_lowering.specs.Flat.{some_when, holds, fails, is_among_keys, is_key, no_key, flat, flat_if, flat_chain, flat_arms, flat_block}
 use Rattle.lx_lowering.specs.Lowering.{StmtKeeps, BranchesKeep, ArmsKeep, BlockKeeps}
 use Rattle.lx_lowering.proofs.Appends.{both_taken}
 use Rattle.lx_lowering.proofs.Targets.{TermLaws, some_when_taken, assigns_taken}

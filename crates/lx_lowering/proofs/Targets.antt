@@ -1,26 +1,25 @@
 -- Laws of terms that are lowered, the conditions of flat statements, and the assignments to the parts of a target.
-use Rattle.std.proofs.Common.{◌≡◌, ℕ, ℤ, pos, negsuc, zero, suc, Bool, true, false, ◌&&◌, ◌||◌, not, cond, List, [], ◌∷◌, ◌++◌, Option, Some, None, ◌+◌, ◌-◌, ◌/◌, ◌%◌, ◌^◌, ◌<◌, ◌≤◌, ◌≢◌, min, max, nat_lt, refl, sym, ◌∙◌, ap, subst, arith, ◌⊎◌, inl, inr}
+use Rattle.std.proofs.Common.{◌≡◌, ℕ, ℤ, pos, negsuc, zero, suc, Bool, true, false, ◌&&◌, not, cond, List, [], ◌∷◌, ◌++◌, None, ◌+◌, ◌-◌, ◌^◌, ◌<◌, ◌≤◌, min, nat_lt, refl, sym, ◌∙◌, ap, subst, arith, inl, inr}
 use Rattle.std.specs.Prelude.{eqb, int_lt}
 use Rattle.std.specs.Ordering.{int_eq}
 use Rattle.std.proofs.lemmas.Bool.Decides.{nat_tests}
-use Rattle.std.proofs.lemmas.Bool.{cases_lt, cases_eq, cond-true, cond-false, lt-ltb, le-ltb, eq-eqb, ne_eqb}
-use Rattle.std.proofs.lemmas.Nat.{pow_pos}
+use Rattle.std.proofs.lemmas.Bool.{cases_lt, cases_eq, lt-ltb, le-ltb, eq-eqb, ne_eqb}
 use Rattle.std.proofs.Math.Nat.{mod-eq_of_lt, div-eq_of_lt, pow-le-pow_right}
 use Rattle.std.proofs.lemmas.List.{append-nil}
 use Rattle.lx_num.specs.declared.Shape.{Shape}
-use Rattle.lx_num.specs.Ints.{unsigned, wrapped, floor_div, Fits, FitsBits}
+use Rattle.lx_num.specs.Ints.{wrapped, floor_div, Fits, FitsBits}
 use Rattle.lx_num.proofs.Ranges.{pos_fits, wrap_bits_same, fits_pos, fits_magnitude}
 use Rattle.lx_num.proofs.Ints.{halves}
 use Rattle.lx_tables.specs.declared.operators.Op.TheVariants as op
-use Rattle.lx_circuit.specs.Terms.{Term, Terms, Constant, Binary}
-use Rattle.lx_circuit.specs.Shapes.{Shapes, shape_of, fault_of, or_else}
+use Rattle.lx_circuit.specs.Terms.{Term, Constant, Binary}
+use Rattle.lx_circuit.specs.Shapes.{Shapes, shape_of, or_else}
 use Rattle.lx_circuit.specs.Values.{Values, value_of, is_zero, flag, count_of, nth_or_last}
-use Rattle.lx_circuit.specs.Statements.{Target, Targets, Whole, Part, CatTarget, PickTarget, NoTarget, MoreTargets, Block, Done, Then, Piece, pieces, parts_pieces, items_pieces, taken, taken_block, target_bits}
+use Rattle.lx_circuit.specs.Statements.{Target, Targets, Whole, Part, CatTarget, PickTarget, NoTarget, MoreTargets, Block, Done, Then, pieces, parts_pieces, items_pieces, taken_block, target_bits}
 use Rattle.lx_circuit.specs.Reads.{names}
 use Rattle.lx_fhdl.specs.Nodes.{IsSmall}
 use Rattle.lx_lowering.specs.Terms.{never, is_item, lower_term}
-use Rattle.lx_lowering.specs.Flat.{append, one, when, some_when, without_low, is_last, item_assigns, assigns, parts_assigns, items_assigns}
-use Rattle.lx_lowering.specs.Lowering.{TermKeeps, TargetKeeps, TargetsKeep, some_targets}
+use Rattle.lx_lowering.specs.Flat.{when, some_when, without_low, is_last, item_assigns, assigns, parts_assigns, items_assigns}
+use Rattle.lx_lowering.specs.Lowering.{TermKeeps, TargetKeeps, TargetsKeep}
 use Rattle.lx_lowering.proofs.Appends.{both_taken}
 
 -- what lowering keeps of a term, its value aside
@@ -41,6 +40,9 @@ pub record TermLaws (s : Shapes) (n : ℕ) (v : Values) : Type 0 where
   pub lower_value : (t : Term) → TermKeeps s n t → value_of s v (lower_term s t) ≡ value_of s v t
   pub lower_keeps : (t : Term) → TermKeeps s n t → TermKeeps s n (lower_term s t)
   pub lower_names : (y : ℕ) (t : Term) → TermKeeps s n t → names y (lower_term s t) ≡ true → names y t ≡ true
+
+pub shape_laws : (s : Shapes) (n : ℕ) (v : Values) → TermLaws s n v → ShapeLaws s n
+shape_laws s n v laws = record { small = laws.small; term_small = laws.term_small; lower_shape = laws.lower_shape; lower_keeps = laws.lower_keeps; lower_names = laws.lower_names }
 
 -- ---- statements under a condition
 
