@@ -1,3 +1,8 @@
+pub mod Appends
+pub mod Branches
+pub mod FlatReads
+pub mod FlatShape
+pub mod FlatTaken
 pub mod FoldFacts
 pub mod ListFacts
 pub mod LowerTerms
@@ -5,4 +10,5 @@ pub mod Lowering
 pub mod Picks
 pub mod SameRuns
 pub mod SplitFacts
+pub mod Targets
 pub mod TermFacts
