@@ -17,6 +17,7 @@ use Rattle.lx_fhdl.specs.Lowered.{is_done, is_lone}
 use Rattle.lx_lowering.specs.Terms.{never, is_item, lower_term}
 use Rattle.lx_lowering.specs.Flat.{append, when, some_when, holds, fails, without_low, is_last, item_assigns, assigns, parts_assigns, items_assigns, first_branch, is_among_keys, is_value, key_of, is_key, and_none, no_key, otherwise, flat, flat_if, flat_chain, flat_arms, flat_block}
 use Rattle.lx_lowering.specs.Lowering.{is_sound, some_targets, TargetKeeps, TargetsKeep, TermKeeps, StmtKeeps, BranchesKeep, ArmsKeep, BlockKeeps}
+use Rattle.lx_lowering.proofs.SplitFacts.{is_bits as is_bare, is_flat, branches_are_flat, is_flat_block as are_flat}
 use Rattle.lx_lowering.proofs.Appends.{keeps_append, depth_append}
 use Rattle.lx_lowering.proofs.Targets.{ShapeLaws, without_low_keeps}
 
@@ -202,28 +203,6 @@ mutual
   flat_block_keeps s n laws (Then x xs) p = keeps_append s n (flat s x) (flat_block s xs) (flat_keeps s n laws x p.0) (flat_block_keeps s n laws xs p.1)
 
 -- ---- flat statements
-
--- the signal, or some of its bits
-abbrev pub is_bare : Target → Bool
-is_bare (Whole x) = true
-is_bare (Part x low len) = true
-is_bare (CatTarget parts) = false
-is_bare (PickTarget items index) = false
-
--- assignments to a signal or its bits, under conditions with one branch each
-abbrev mutual
-  pub is_flat : Stmt → Bool
-  is_flat (Assign t e) = is_bare t
-  is_flat (If bs rest) = is_lone bs rest && (branches_are_flat bs && are_flat rest)
-  is_flat (Case on arms rest) = false
-
-  pub branches_are_flat : Branches → Bool
-  branches_are_flat NoBranch = true
-  branches_are_flat (Branch c b more) = are_flat b && branches_are_flat more
-
-  pub are_flat : Block → Bool
-  are_flat Done = true
-  are_flat (Then s ss) = is_flat s && are_flat ss
 
 flat_append : (a b : Block) → are_flat a ≡ true → are_flat b ≡ true → are_flat (append a b) ≡ true
 flat_append Done b p q = q
