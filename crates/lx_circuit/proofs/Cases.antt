@@ -1,5 +1,5 @@
 -- Tests, and lists of pieces.
-use Rattle.std.proofs.Common.{◌≡◌, ℕ, ℤ, Bool, true, false, List, [], ◌∷◌, ◌++◌, ◌||◌, ◌&&◌, cond, refl, sym, ◌∙◌, ap, nat_eq}
+use Rattle.std.proofs.Common.{◌≡◌, ℕ, Bool, true, false, List, [], ◌∷◌, ◌++◌, ◌||◌, ◌&&◌, cond, refl, ◌∙◌, ap, nat_eq}
 use Rattle.lx_circuit.specs.Statements.{Piece, after_pieces, laid_over}
 
 -- by what a test answers

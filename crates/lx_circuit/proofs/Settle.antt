@@ -1,9 +1,8 @@
 -- A circuit with an order of its reads settles in exactly one way: round after round of what the roles
 -- say, a signal of rank k stays as it is from round k + 1 on.
-use Rattle.std.proofs.Common.{◌≡◌, ℕ, ℤ, pos, Bool, true, false, ◌+◌, ◌-◌, ◌<◌, ◌≤◌, ◌^◌, ◌%◌, refl, sym, ◌∙◌, ap, zero, suc, arith}
+use Rattle.std.proofs.Common.{◌≡◌, ℕ, pos, ◌+◌, ◌-◌, ◌<◌, ◌^◌, ◌%◌, refl, sym, ◌∙◌, ap, zero, suc, arith}
 use Rattle.lx_num.specs.Ints.{modulo, read_bits}
 use Rattle.lx_circuit.specs.Values.{Values}
-use Rattle.lx_circuit.specs.Statements.{after_pieces, taken_block}
 use Rattle.lx_circuit.specs.Circuit.{Circuit, Role, Input, Comb, Sync, Undriven, role, by_role, made, shapes, IsSettled}
 use Rattle.lx_circuit.specs.Reads.{HasOrder, reads_block}
 use Rattle.lx_circuit.specs.Settling.{SettlesOnce}

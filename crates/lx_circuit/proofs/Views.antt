@@ -1,10 +1,10 @@
 -- Exactly one view after every list of steps.
-use Rattle.std.proofs.Common.{◌≡◌, ℕ, List, [], ◌∷◌, refl, sym, ◌∙◌, ap, subst}
+use Rattle.std.proofs.Common.{◌≡◌, ℕ, List, [], ◌∷◌, subst}
 use Rattle.std.proofs.Math.Path.{fun_ext}
 use Rattle.lx_circuit.specs.Values.{Values}
-use Rattle.lx_circuit.specs.Circuit.{Circuit, Step, next_state, first_state, IsSettled, ViewFrom, IsView}
+use Rattle.lx_circuit.specs.Circuit.{Circuit, Step, next_state, first_state, ViewFrom}
 use Rattle.lx_circuit.specs.Reads.{HasOrder}
-use Rattle.lx_circuit.specs.Settling.{SettlesOnce, ViewedOnce}
+use Rattle.lx_circuit.specs.Settling.{ViewedOnce}
 use Rattle.lx_circuit.proofs.Settle.{settles_once}
 
 -- a view from a state, and no other

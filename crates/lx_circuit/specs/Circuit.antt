@@ -1,5 +1,5 @@
 -- A circuit, and what its signals are after any list of steps.
-use Rattle.std.specs.Prelude.{◌≡◌, ℕ, ℤ, pos, Bool, true, false, List, [], ◌∷◌, Option, Some, None, ◌+◌, ◌≤◌, ◌<◌, nat_eq, not, ◌&&◌, ◌||◌, if◌then◌else◌, slice_index_or, length}
+use Rattle.std.specs.Prelude.{◌≡◌, ℕ, ℤ, pos, Bool, false, List, [], ◌∷◌, Option, Some, None, ◌+◌, ◌≤◌, nat_eq, not, ◌&&◌, ◌||◌, if◌then◌else◌, slice_index_or}
 use Rattle.lx_num.specs.declared.Shape.{Shape}
 use Rattle.lx_num.specs.Ints.{unsigned, Fits}
 use Rattle.lx_circuit.specs.Shapes.{Shapes}

@@ -1,8 +1,8 @@
 -- The law of settling, and that values stay in their shapes.
-use Rattle.std.specs.Prelude.{◌≡◌, ℕ, ℤ, List}
+use Rattle.std.specs.Prelude.{◌≡◌, ℕ, List}
 use Rattle.lx_num.specs.Ints.{Fits}
 use Rattle.lx_circuit.specs.Values.{Values}
-use Rattle.lx_circuit.specs.Circuit.{Circuit, Step, Role, Sync, role, shapes, IsSettled, InputsFit, StepsFit, KeepsShapes, IsView}
+use Rattle.lx_circuit.specs.Circuit.{Circuit, Step, shapes, IsSettled, InputsFit, StepsFit, KeepsShapes, IsView}
 use Rattle.lx_circuit.specs.Reads.{HasOrder}
 
 -- settled values, and no others

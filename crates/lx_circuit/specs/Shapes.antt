@@ -1,9 +1,9 @@
 -- The shape of an expression, or the fault that its operators have.
-use Rattle.std.specs.Prelude.{ℕ, Bool, true, false, List, [], ◌∷◌, Option, Some, None, ◌+◌, ◌-◌, ◌*◌, ◌^◌, max, min, nat_le, nat_lt, nat_eq, not, ◌&&◌, ◌||◌, if◌then◌else◌, length}
+use Rattle.std.specs.Prelude.{ℕ, Bool, true, false, List, [], ◌∷◌, Option, Some, None, ◌+◌, ◌-◌, ◌*◌, ◌^◌, max, min, nat_le, nat_lt, nat_eq, ◌&&◌, ◌||◌, if◌then◌else◌}
 use Rattle.lx_num.specs.declared.Shape.{Shape}
 use Rattle.lx_num.specs.Ints.{shape, unsigned}
 use Rattle.lx_tables.specs.declared.operators.Op.{Op}
-use Rattle.lx_tables.specs.declared.operators.Op.TheVariants.{Neg, Not, Add, Sub, Mul, Shl, Shr, And, Or, Xor, Eq, Ne, Lt, Le, Gt, Ge}
+use Rattle.lx_tables.specs.declared.operators.Op.TheVariants.{Neg, Add, Sub, Mul, Shl, Shr, And, Or, Xor}
 use Rattle.lx_circuit.specs.declared.WidthFault.{WidthFault}
 use Rattle.lx_circuit.specs.declared.WidthFault.TheVariants.{TooWide, SignedShift, BadSlice, BadWidth}
 use Rattle.lx_circuit.specs.Terms.{Term, Terms, Constant, Signal, Unary, Binary, Mux, Cat, Replicate, Slice, Pick, NoTerm, MoreTerms}

@@ -1,7 +1,6 @@
 -- Statements, and the assignments that are taken.
 use Rattle.std.specs.Prelude.{ℕ, ℤ, Bool, false, List, [], ◌∷◌, ◌++◌, ◌+◌, ◌*◌, ◌/◌, ◌%◌, ◌^◌, ◌||◌, max, nat_eq, if◌then◌else◌}
 use Rattle.std.specs.Ordering.{int_eq}
-use Rattle.lx_num.specs.declared.Shape.{Shape}
 use Rattle.lx_num.specs.Ints.{modulo, floor_div, read_bits}
 use Rattle.lx_circuit.specs.Terms.{Term}
 use Rattle.lx_circuit.specs.Shapes.{Shapes}

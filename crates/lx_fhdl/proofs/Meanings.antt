@@ -1,16 +1,16 @@
 -- A node's shape, fault and value are those of its tree.
-use Rattle.std.proofs.Common.{◌≡◌, ℕ, ◌+◌, ◌-◌, ◌*◌, ◌<◌, ◌≤◌, true, List, [], ◌∷◌, length, refl, sym, ◌∙◌, ap, subst, arith, ◌⊎◌, inl, inr, suc, zero, ◌&&◌}
-use Rattle.std.specs.Prelude.{ℤ, pos, Option, Some, None, slice_get}
+use Rattle.std.proofs.Common.{◌≡◌, ℕ, ◌-◌, ◌*◌, ◌<◌, ◌≤◌, List, [], ◌∷◌, length, refl, sym, ◌∙◌, ap, subst, arith, inl, inr, suc, zero}
+use Rattle.std.specs.Prelude.{ℤ, pos, Option, None}
 use Rattle.std.proofs.lemmas.Bool.{cases_lt}
 use Rattle.lx_num.specs.declared.Shape.{Shape}
-use Rattle.lx_num.specs.Ints.{shape, unsigned, field_of}
+use Rattle.lx_num.specs.Ints.{unsigned, field_of}
 use Rattle.lx_arena.specs.Lower.{EachLower}
 use Rattle.lx_circuit.specs.declared.WidthFault.{WidthFault}
-use Rattle.lx_circuit.specs.Terms.{Term, Terms}
-use Rattle.lx_circuit.specs.Shapes.{Shapes, shape_of, shapes_of, fault_of, faults_of, or_else, joined, pick_shape, bits_sum, unary_shape, binary_shape, too_wide, binary_fault, replicate_fault, slice_fault, pick_fault, constant_fault}
+use Rattle.lx_circuit.specs.Terms.{Term}
+use Rattle.lx_circuit.specs.Shapes.{Shapes, shape_of, shapes_of, fault_of, faults_of, or_else, joined, pick_shape, bits_sum, unary_shape, binary_shape, too_wide, binary_fault, replicate_fault, slice_fault, pick_fault}
 use Rattle.lx_circuit.specs.Values.{Values, value_of, values_of, unary_value, binary_value, mux_value, cat_pattern, pick_value, replicate_value}
 use Rattle.lx_fhdl.specs.Below.{ExprId, expr_below}
-use Rattle.lx_fhdl.specs.Nodes.{EachPlace, EachChild, IsNode, IsShaped, IsValued, shape_at, shapes_at, value_at, values_at, node_shape, node_fault, node_value}
+use Rattle.lx_fhdl.specs.Nodes.{EachPlace, EachChild, IsShaped, IsValued, shape_at, shapes_at, value_at, values_at, node_shape, node_fault, node_value}
 use Rattle.lx_fhdl.specs.Trees.{terms_at, node_term, term_at}
 use Rattle.lx_fhdl.specs.Laws.{OfSignal, GivesShapes, MeansTree}
 use Rattle.lx_fhdl.specs.declared.exprs.Expr.{Expr}

@@ -8,7 +8,7 @@ use Rattle.lx_arena.specs.Lower.{EachLower}
 use Rattle.lx_circuit.specs.Operands.{is_unary, is_binary}
 use Rattle.lx_circuit.specs.Shapes.{shape_of, fault_of}
 use Rattle.lx_circuit.specs.Statements as tree
-use Rattle.lx_fhdl.specs.Below.{ExprId, TargetId, StmtId, expr_below, target_below, stmt_below, all_stmts_below}
+use Rattle.lx_fhdl.specs.Below.{StmtId, expr_below, target_below, stmt_below, all_stmts_below}
 use Rattle.lx_fhdl.specs.Nodes.{HasParts}
 use Rattle.lx_fhdl.specs.Designs as design
 use Rattle.lx_fhdl.specs.Designs.{shapes}

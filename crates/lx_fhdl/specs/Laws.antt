@@ -1,9 +1,8 @@
 -- The nodes of an arena mean what their trees mean.
-use Rattle.std.specs.Prelude.{◌≡◌, ℕ, ℤ, List, Option, Some, None, ◌<◌, length, slice_get}
+use Rattle.std.specs.Prelude.{◌≡◌, ℕ, ℤ, List, Some, None, ◌<◌, length, slice_get}
 use Rattle.lx_num.specs.declared.Shape.{Shape}
 use Rattle.lx_num.specs.Ints.{Fits}
 use Rattle.lx_arena.specs.Lower.{EachLower}
-use Rattle.lx_circuit.specs.declared.WidthFault.{WidthFault}
 use Rattle.lx_circuit.specs.Shapes.{Shapes, shape_of, fault_of}
 use Rattle.lx_circuit.specs.Values.{Values, value_of}
 use Rattle.lx_circuit.specs.Circuit.{Step, StepsFit, InputsFit, IsView}

@@ -1,5 +1,5 @@
 -- Lowered designs: each statement assigns one signal, and no item is picked from a list.
-use Rattle.std.specs.Prelude.{◌≡◌, ℕ, Bool, true, false, not, ◌&&◌, nat_eq, List, [], ◌∷◌, Option, Some, None, slice_get, IsTrue}
+use Rattle.std.specs.Prelude.{◌≡◌, ℕ, Bool, true, false, not, ◌&&◌, nat_eq, Some, slice_get, IsTrue}
 use Rattle.lx_circuit.specs.Statements.{Target, Whole, Part, CatTarget, PickTarget, Stmt, Assign, If, Case, Branches, NoBranch, Branch, Block, Done, Then}
 use Rattle.lx_fhdl.specs.Designs.{block}
 use Rattle.lx_fhdl.specs.Keeping.{EachOf}

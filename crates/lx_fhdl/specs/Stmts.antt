@@ -1,10 +1,9 @@
 -- The trees of targets and statements that hang in arenas.
-use Rattle.std.specs.Prelude.{ℕ, pos, List, [], ◌∷◌, Option, Some, None, slice_get}
+use Rattle.std.specs.Prelude.{ℕ, List, [], ◌∷◌, Option, Some, None, slice_get}
 use Rattle.std.proofs.Common.{zero, suc}
 use Rattle.lx_circuit.specs.Terms.{Term}
 use Rattle.lx_circuit.specs.Statements as tree
 use Rattle.lx_fhdl.specs.Below.{TargetId, StmtId}
-use Rattle.lx_fhdl.specs.Trees.{no_term}
 use Rattle.lx_fhdl.specs.declared.stmts.Target.{Target}
 use Rattle.lx_fhdl.specs.declared.stmts.Target.TheVariants as target
 use Rattle.lx_fhdl.specs.declared.stmts.Branch.{Branch}

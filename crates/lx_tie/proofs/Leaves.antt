@@ -1,16 +1,13 @@
 -- Patterns in wider contexts, and expressions that stand for a number exactly.
-use Rattle.std.proofs.Common.{◌≡◌, ℕ, ℤ, pos, negsuc, Bool, true, false, List, [], ◌∷◌, ◌+◌, ◌-◌, ◌*◌, ◌/◌, ◌%◌, ◌^◌, ◌<◌, ◌≤◌, cond, nat_le, nat_eq, max, refl, sym, ◌∙◌, ap, subst, arith, zero, suc}
+use Rattle.std.proofs.Common.{◌≡◌, ℕ, ℤ, pos, negsuc, Bool, true, false, [], ◌∷◌, ◌+◌, ◌-◌, ◌*◌, ◌%◌, ◌^◌, ◌<◌, ◌≤◌, cond, nat_le, nat_eq, max, refl, sym, ◌∙◌, ap, arith}
 use Rattle.std.proofs.Math.Nat.{pow-le-pow_right, mod-eq_of_lt}
 use Rattle.std.proofs.lemmas.Bool.{cond-true, cond-false, le-leb, lt-leb, ne_eqb}
 use Rattle.std.proofs.lemmas.Bool.Decides.{same_from_decides, Decides-eqb, Decides-int_eq, Decides-like}
-use Rattle.std.proofs.lemmas.Int.{ints}
-use Rattle.std.proofs.lemmas.Nat.{pow_pos}
 use Rattle.std.specs.Ordering.{int_eq}
-use borrow.Author.Differences.{up, down}
-use Rattle.lx_num.specs.Ints.{modulo, floor_div, field_of, FitsBits, read_bits}
-use Rattle.lx_num.proofs.Ints.{modulo-small, modulo-modulo, modulo-below, halves, pow_split, modulo_is, floor_rule}
+use Rattle.lx_num.specs.Ints.{modulo, FitsBits, read_bits}
+use Rattle.lx_num.proofs.Ints.{modulo-small, modulo-modulo, halves}
 use Rattle.lx_num.proofs.Ranges.{pos_fits, negative_fits, unsigned_fits, signed_fits, fits_wider, fits_as_signed, read_bits-modulo}
-use Rattle.lx_vmeaning.specs.Meaning.{Valuation, Meaning, extend, own, leaf, literal, concat, as_signed, cut_to}
+use Rattle.lx_vmeaning.specs.Meaning.{Valuation, Meaning, extend, own, leaf, literal, concat, cut_to}
 use Rattle.lx_tie.specs.Rows.{widened}
 use Rattle.lx_tie.specs.Stands.{Exact, Drives, Spreads}
 

@@ -1,19 +1,18 @@
 -- Selects, shifts of signed numbers, concatenations and copies.
-use Rattle.std.proofs.Common.{◌≡◌, ℕ, ℤ, pos, negsuc, Bool, true, false, List, [], ◌∷◌, ◌++◌, ◌+◌, ◌-◌, ◌*◌, ◌/◌, ◌%◌, ◌^◌, ◌<◌, ◌≤◌, cond, nat_le, max, refl, sym, ◌∙◌, ap, arith, zero, suc, inl, inr, zero-add, pow-add}
-use Rattle.std.proofs.Math.Nat.{mod-eq_of_lt, div-eq_of_lt, div-le_self, mul-le-mul_right, div-lt_iff_lt-mul}
+use Rattle.std.proofs.Common.{◌≡◌, ℕ, ℤ, pos, negsuc, true, false, List, [], ◌∷◌, ◌+◌, ◌-◌, ◌*◌, ◌/◌, ◌%◌, ◌^◌, ◌<◌, ◌≤◌, cond, nat_le, refl, sym, ◌∙◌, ap, arith, zero, suc, inl, inr, zero-add, pow-add}
+use Rattle.std.proofs.Math.Nat.{div-eq_of_lt, div-le_self, mul-le-mul_right, div-lt_iff_lt-mul}
 use Rattle.std.proofs.Math.Arith.{digits_div}
-use Rattle.std.proofs.lemmas.Bool.{cond-true, cond-false, le-leb, lt-leb, leb-true, cases_lt}
-use Rattle.std.proofs.lemmas.Int.{ints}
+use Rattle.std.proofs.lemmas.Bool.{cond-true, cond-false, le-leb, lt-leb, cases_lt}
 use Rattle.std.proofs.lemmas.Nat.{pow_pos, mul-add-lt}
 use borrow.Author.Differences.{up, down}
 use Rattle.lx_num.specs.declared.Shape.{Shape}
-use Rattle.lx_num.specs.Ints.{modulo, floor_div, field_of, FitsBits, read_bits}
+use Rattle.lx_num.specs.Ints.{modulo, floor_div, field_of, FitsBits}
 use Rattle.lx_num.proofs.Ints.{modulo-small, modulo-below, modulo-modulo, modulo_is, floor_rule, halves, pow_split}
-use Rattle.lx_num.proofs.Ranges.{pos_fits, negative_fits, unsigned_fits, signed_fits, fits_pos}
+use Rattle.lx_num.proofs.Ranges.{negative_fits, signed_fits, fits_pos}
 use Rattle.lx_circuit.specs.Values.{copies, cat_pattern, count_of, replicate_value}
 use Rattle.lx_circuit.specs.Shapes.{bits_sum}
-use Rattle.lx_vmeaning.specs.Meaning.{Valuation, Meaning, own, leaf, fill_shift, arithmetic_right, select, concat, concat_bits, width_sum, repeat, repeated}
-use Rattle.lx_tie.specs.Stands.{Exact, Drives, Spreads}
+use Rattle.lx_vmeaning.specs.Meaning.{Valuation, Meaning, own, fill_shift, arithmetic_right, select, concat, concat_bits, width_sum, repeat, repeated}
+use Rattle.lx_tie.specs.Stands.{Exact, Spreads}
 use Rattle.lx_tie.proofs.Leaves.{pow_le, modulo_negative, own_exact, exact_leaf}
 use Rattle.lx_tie.proofs.Texts.{amount_is}
 

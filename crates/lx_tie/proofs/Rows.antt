@@ -1,11 +1,8 @@
 -- Each row of the table of operators gives a net the bits of the operator's value.
-use Rattle.std.proofs.Common.{◌≡◌, ℕ, ℤ, pos, Bool, true, false, ◌+◌, ◌-◌, ◌*◌, ◌^◌, ◌≤◌, ◌||◌, ◌&&◌, max, not, refl, sym, ◌∙◌, ap, subst, arith}
-use Rattle.std.specs.Prelude.{int_lt}
-use Rattle.std.specs.Ordering.{int_eq}
+use Rattle.std.proofs.Common.{◌≡◌, ℕ, ℤ, Bool, true, false, ◌+◌, ◌-◌, ◌^◌, ◌||◌, ◌&&◌, max, not, subst, arith}
 use Rattle.std.proofs.lemmas.Nat.{pow_pos}
 use Rattle.lx_num.specs.declared.Shape.{Shape}
-use Rattle.lx_num.specs.Ints.{shape, FitsBits, floor_div}
-use Rattle.lx_num.specs.Bits.{int_not}
+use Rattle.lx_num.specs.Ints.{shape, floor_div}
 use Rattle.lx_tables.specs.declared.operators.Op.{Op}
 use Rattle.lx_tables.specs.declared.operators.Op.TheVariants.{Neg, Not, Add, Sub, Mul, Shl, Shr, And, Or, Xor, Eq, Ne, Lt, Le, Gt, Ge, Mux, Cat, Replicate}
 use Rattle.lx_tables.specs.Operators.{row_of, mix_of, left_signed, right_signed, right_shift}
@@ -13,7 +10,7 @@ use Rattle.lx_circuit.specs.Shapes.{extra, joined_bits, joined, unary_shape, bin
 use Rattle.lx_circuit.specs.Values.{unary_value, binary_value, mux_value, flag, count_of}
 use Rattle.lx_vmeaning.specs.Meaning.{Valuation, Meaning, compare, less, less_equal, greater, greater_equal, equal, not_equal, negated, inverted, binary}
 use Rattle.lx_tie.specs.Stands.{Exact, Drives, Spreads}
-use Rattle.lx_tie.specs.Rows.{widened, wide_if, binary_op, built_unary, built_binary, built_choice, TakesRight}
+use Rattle.lx_tie.specs.Rows.{wide_if, binary_op, built_unary, built_binary, built_choice, TakesRight}
 use Rattle.lx_circuit.specs.Operands.{is_unary, is_binary}
 use Rattle.lx_tie.proofs.Leaves.{spreads_drives, exact_spreads, exact_widened}
 use Rattle.lx_tie.proofs.Texts.{spreads_plus, spreads_minus, spreads_times, spreads_and, spreads_or, spreads_xor, spreads_negated, spreads_inverted, drives_inverted, spreads_left_shift, spreads_right_shift, exact_compare, spreads_choose}

@@ -1,23 +1,19 @@
 -- The text of each operator at operands of one sign.
-use Rattle.std.proofs.Common.{◌≡◌, ℕ, ℤ, pos, negsuc, Bool, true, false, List, [], ◌∷◌, ◌+◌, ◌-◌, ◌*◌, ◌/◌, ◌%◌, ◌^◌, ◌<◌, ◌≤◌, ◌&&◌, cond, nat_le, nat_eq, max, not, refl, sym, ◌∙◌, ap, subst, arith, zero, suc, bit_and, bit_or, bit_xor}
+use Rattle.std.proofs.Common.{◌≡◌, ℕ, ℤ, pos, negsuc, Bool, true, false, ◌-◌, ◌*◌, ◌/◌, ◌%◌, ◌^◌, ◌≤◌, ◌&&◌, cond, nat_eq, max, refl, sym, ◌∙◌, ap, arith}
 use Rattle.std.specs.Prelude.{◌+ℤ◌, ◌-ℤ◌, ◌*ℤ◌}
 use Rattle.std.proofs.Common.{neg_ℤ}
-use Rattle.std.proofs.Math.Nat.{mod-eq_of_lt, div-eq_of_lt, div-le_self}
-use Rattle.std.proofs.lemmas.Bool.{cond-true, cond-false, le-leb, lt-leb}
+use Rattle.std.proofs.Math.Nat.{div-le_self}
 use Rattle.std.proofs.lemmas.Int.{ints}
 use Rattle.std.proofs.lemmas.Nat.{pow_pos, mul-mod_second}
-use Rattle.std.specs.Ordering.{int_eq}
-use borrow.Author.Differences.{up, down}
-use Rattle.lx_num.specs.declared.Shape.{Shape}
-use Rattle.lx_num.specs.Ints.{modulo, floor_div, FitsBits, read_bits, shape}
+use Rattle.lx_num.specs.Ints.{modulo, floor_div, FitsBits, read_bits}
 use Rattle.lx_num.specs.Bits.{int_not, int_and, int_or, int_xor}
-use Rattle.lx_num.proofs.Ints.{modulo-small, modulo-below, halves, modulo-add, modulo-sub, modulo-neg, modulo-mul, modulo-int_not}
+use Rattle.lx_num.proofs.Ints.{modulo-small, modulo-add, modulo-sub, modulo-neg, modulo-mul, modulo-int_not}
 use Rattle.lx_num.proofs.Bitwise.{modulo-int_and, modulo-int_or, modulo-int_xor}
-use Rattle.lx_num.proofs.Ranges.{pos_fits, negative_fits, unsigned_fits, signed_fits, fits_wider, fits_pos}
-use Rattle.lx_vmeaning.specs.Meaning.{Valuation, Meaning, own, leaf, both, add_bits, sub_bits, mul_bits, and_bits, or_bits, xor_bits, negated, inverted, left_shift, right_shift, arithmetic_right, fill_shift, compare, truth, choose}
+use Rattle.lx_num.proofs.Ranges.{pos_fits, unsigned_fits, fits_pos}
+use Rattle.lx_vmeaning.specs.Meaning.{Valuation, Meaning, own, both, add_bits, sub_bits, mul_bits, and_bits, or_bits, xor_bits, negated, inverted, left_shift, right_shift, compare, truth, choose}
 use Rattle.lx_circuit.specs.Values.{count_of, is_zero, mux_value, flag}
 use Rattle.lx_tie.specs.Stands.{Exact, Drives, Spreads}
-use Rattle.lx_tie.proofs.Leaves.{pow_le, modulo_negative, own_exact, read_exact, zero_pattern, exact_leaf}
+use Rattle.lx_tie.proofs.Leaves.{pow_le, own_exact, read_exact, zero_pattern, exact_leaf}
 
 and_self : (s : Bool) → (s && s) ≡ s
 and_self true = refl

@@ -1,8 +1,8 @@
 -- The text of an operator, as its row of the table says, and what it means.
-use Rattle.std.specs.Prelude.{◌≡◌, ℕ, ℤ, Bool, true, false, List, [], ◌∷◌}
+use Rattle.std.specs.Prelude.{◌≡◌, ℤ, Bool, true, false, [], ◌∷◌}
 use Rattle.lx_num.specs.declared.Shape.{Shape}
 use Rattle.lx_tables.specs.declared.operators.Op.{Op}
-use Rattle.lx_tables.specs.declared.operators.Op.TheVariants.{Neg, Not, Add, Sub, Mul, Shl, Shr, And, Or, Xor, Eq, Ne, Lt, Le, Gt, Ge, Mux, Cat, Replicate}
+use Rattle.lx_tables.specs.declared.operators.Op.TheVariants.{Shl, Shr, Mux}
 use Rattle.lx_tables.specs.declared.operators.OpText.{OpText}
 use Rattle.lx_tables.specs.declared.operators.OpText.TheVariants as text
 use Rattle.lx_tables.specs.declared.operators.OpRow.{OpRow}

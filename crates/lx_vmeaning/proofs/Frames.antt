@@ -1,5 +1,5 @@
 -- What a net is hangs on what its driver reads alone.
-use Rattle.std.proofs.Common.{◌≡◌, ℕ, Bool, true, false, List, [], ◌∷◌, ◌||◌, ◌&&◌, ◌+◌, ◌-◌, ◌*◌, ◌^◌, ◌%◌, cond, refl, sym, ◌∙◌, ap, max, not, nat_eq, ℤ, ◌/◌, eq-eqb}
+use Rattle.std.proofs.Common.{◌≡◌, ℕ, Bool, true, false, [], ◌∷◌, ◌||◌, ◌&&◌, ◌+◌, ◌-◌, ◌*◌, ◌^◌, ◌%◌, cond, refl, ◌∙◌, ap, max, not, nat_eq, ℤ, ◌/◌, eq-eqb}
 use Rattle.std.specs.Str.{bytes_eq}
 use Rattle.lx_num.specs.Ints.{read_bits}
 use Rattle.lx_vtext.specs.declared.operators.UnOp.{UnOp}
@@ -7,7 +7,7 @@ use Rattle.lx_vtext.specs.declared.operators.UnOp.TheVariants.{Negate, Invert}
 use Rattle.lx_vtext.specs.declared.operators.BinOp.{BinOp}
 use Rattle.lx_vtext.specs.declared.operators.BinOp.TheVariants as op
 use Rattle.lx_vtext.specs.Tree.{Name, VExpr, VExprs, Net, Literal, Select, Word, Unary, Binary, Choose, Concat, Repeat, ToSigned, ToUnsigned, NoMore, More, VTarget, Whole, Part, WholeWord, PartWord, VStmt, Assign, When, VElse, NoElse, Else, VBlock, EndBlock, InBlock, VModule}
-use Rattle.lx_vmeaning.specs.Meaning.{Declared, Sizes, Valuation, Meaning, meaning, meanings, own, leaf, extend, both, compare, choose, concat_bits, width_sum, repeated, read_word, truth, unary, binary, cut_to, assigned, holds, add_bits, sub_bits, mul_bits, and_bits, or_bits, xor_bits, less, less_equal, greater, greater_equal, equal, not_equal, fill_shift}
+use Rattle.lx_vmeaning.specs.Meaning.{Sizes, Valuation, Meaning, meaning, meanings, own, leaf, extend, compare, choose, concat_bits, width_sum, repeated, read_word, truth, unary, binary, assigned, holds, add_bits, sub_bits, mul_bits, and_bits, or_bits, xor_bits, less, less_equal, greater, greater_equal, equal, not_equal, fill_shift}
 use Rattle.lx_vmeaning.specs.Runs.{Driver, Outside, ByAssign, ByBlock, Clocked, Nothing, by_driver, sizes, new_pattern, run_stmt, run_else, run_block, set_bits}
 use Rattle.lx_vmeaning.specs.Cycle.{reads, some_reads, stmt_reads, else_reads, block_reads, driver_reads}
 

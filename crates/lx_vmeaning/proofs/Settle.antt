@@ -1,12 +1,12 @@
 -- A module without a loop settles in exactly one way: round after round of the drivers, a net of rank k
 -- stays as it is from round k + 1 on.
-use Rattle.std.proofs.Common.{◌≡◌, ℕ, Bool, true, false, ◌+◌, ◌-◌, ◌<◌, ◌≤◌, refl, sym, ◌∙◌, ap, zero, suc, arith}
+use Rattle.std.proofs.Common.{◌≡◌, ℕ, ◌+◌, ◌-◌, ◌<◌, refl, sym, ◌∙◌, ap, zero, suc, arith}
 use Rattle.std.proofs.Math.Path.{fun_ext}
 use Rattle.lx_vtext.specs.Tree.{Name, VModule}
 use Rattle.lx_vmeaning.specs.Meaning.{Valuation}
-use Rattle.lx_vmeaning.specs.Runs.{Driver, driver, by_driver, IsVSettled}
-use Rattle.lx_vmeaning.specs.Cycle.{HasNoLoop, HasCycleMeaning, driver_reads}
-use Rattle.lx_vmeaning.specs.Settling.{IsSame, VSettlesOnce}
+use Rattle.lx_vmeaning.specs.Runs.{driver, by_driver, IsVSettled}
+use Rattle.lx_vmeaning.specs.Cycle.{HasNoLoop}
+use Rattle.lx_vmeaning.specs.Settling.{VSettlesOnce}
 use Rattle.lx_vmeaning.proofs.Frames.{by_driver_same}
 
 -- patterns of nets beside the words of a state

@@ -1,5 +1,5 @@
 -- Exactly one view after every list of steps.
-use Rattle.std.proofs.Common.{◌≡◌, ℕ, List, [], ◌∷◌, refl, sym, ◌∙◌, ap, subst}
+use Rattle.std.proofs.Common.{◌≡◌, ℕ, List, [], ◌∷◌, ◌∙◌, ap, subst}
 use Rattle.std.proofs.Math.Path.{fun_ext}
 use Rattle.lx_vtext.specs.Tree.{Name, VModule}
 use Rattle.lx_vmeaning.specs.Meaning.{Valuation}

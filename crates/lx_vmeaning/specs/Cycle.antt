@@ -2,7 +2,7 @@
 use Rattle.std.specs.Prelude.{◌≡◌, ℕ, Bool, true, false, List, [], ◌∷◌, ◌++◌, Option, Some, None, ◌+◌, ◌<◌, nat_le, nat_lt, nat_eq, not, ◌&&◌, ◌||◌, map, length, is_some, if◌then◌else◌, IsTrue}
 use Rattle.std.specs.List.{list_all, list_any}
 use Rattle.std.specs.Str.{bytes_eq}
-use Rattle.lx_vtext.specs.Tree.{Name, VExpr, VExprs, Net, Literal, Select, Word, Unary, Binary, Choose, Concat, Repeat, ToSigned, ToUnsigned, NoMore, More, VTarget, Whole, Part, WholeWord, PartWord, VStmt, Assign, When, VElse, NoElse, Else, VBlock, EndBlock, InBlock, VNet, VPort, VMemory, VDecl, VSet, VAssign, VAlways, VModule}
+use Rattle.lx_vtext.specs.Tree.{Name, VExpr, VExprs, Net, Literal, Select, Word, Unary, Binary, Choose, Concat, Repeat, ToSigned, ToUnsigned, NoMore, More, VTarget, Whole, Part, WholeWord, PartWord, VStmt, Assign, When, VElse, NoElse, Else, VBlock, EndBlock, InBlock, VNet, VPort, VMemory, VSet, VAssign, VAlways, VModule}
 use Rattle.lx_vmeaning.specs.Meaning.{Sizes, meaning}
 use Rattle.lx_vmeaning.specs.Runs.{all_nets, decl_memories, net_named, memory_named, sizes, target_name, Driver, Outside, ByAssign, ByBlock, Clocked, Nothing, drivers, driver}
 

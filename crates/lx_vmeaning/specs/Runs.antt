@@ -1,8 +1,8 @@
 -- What the nets and memories of a module are, after any list of steps.
-use Rattle.std.specs.Prelude.{◌≡◌, ℕ, Bool, true, false, List, [], ◌∷◌, ◌++◌, Option, Some, None, ◌+◌, ◌-◌, ◌*◌, ◌/◌, ◌%◌, ◌^◌, nat_eq, nat_lt, not, ◌&&◌, ◌||◌, map, filter_map, if◌then◌else◌}
+use Rattle.std.specs.Prelude.{◌≡◌, ℕ, Bool, false, List, [], ◌∷◌, ◌++◌, Option, Some, None, ◌+◌, ◌-◌, ◌*◌, ◌/◌, ◌%◌, ◌^◌, nat_eq, nat_lt, ◌&&◌, ◌||◌, map, if◌then◌else◌}
 use Rattle.std.specs.Str.{bytes_eq}
 use Rattle.lx_vtext.specs.Tree.{Name, VExpr, Literal, VTarget, Whole, Part, WholeWord, PartWord, VStmt, Assign, When, VElse, NoElse, Else, VBlock, EndBlock, InBlock, VLiteral, VNet, VPort, VMemory, VDecl, NetDecl, MemoryDecl, VSet, VAssign, VAlways, VModule}
-use Rattle.lx_vmeaning.specs.Meaning.{Declared, Sizes, Valuation, Meaning, meaning, own, assigned, holds}
+use Rattle.lx_vmeaning.specs.Meaning.{Declared, Sizes, Valuation, meaning, own, assigned, holds}
 
 abbrev pub decl_nets : List VDecl → List VNet
 decl_nets [] = []
