@@ -22,11 +22,11 @@ use Rattle.lx_vmeaning.specs.Meaning as verilog
 use Rattle.lx_vmeaning.specs.Meaning.{Sizes, Valuation, Meaning, extend, meaning, meanings, own, leaf, assigned}
 use Rattle.lx_tie.specs.Stands.{Exact, Drives}
 use Rattle.lx_tie.specs.Rows as row
-use Rattle.lx_tie.specs.Rows.{TakesRight}
+use Rattle.lx_tie.specs.Rows.{TakesRight, StandFor, reversed_onto}
 use Rattle.lx_circuit.specs.Operands.{is_unary, is_binary}
 use Rattle.lx_tie.proofs.Leaves.{exact_leaf, own_exact, drives_net, spreads_drives, exact_spreads}
 use Rattle.lx_tie.proofs.Rows.{unary_drives, binary_drives, choice_drives}
-use Rattle.lx_tie.proofs.Parts.{Parts, reversed_onto, field_bits, exact_select, exact_cat, exact_repeat}
+use Rattle.lx_tie.proofs.Parts.{field_bits, exact_select, exact_cat, exact_repeat}
 use Rattle.lx_fhdl.specs.Below.{ExprId}
 use Rattle.lx_fhdl.specs.Nodes.{EachPlace, EachChild, HasParts}
 use Rattle.lx_fhdl.specs.Designs.{term, shapes}
@@ -104,7 +104,7 @@ cat_meaning s o [] h = absurd (omega arith)
 cat_meaning s o (i ∷ is) h = concat_meaning s o is (o i.place) NoMore ∙ ap verilog.concat (parts_meanings s o (i ∷ is) NoMore)
 
 parts_exact : (w : Valuation) (s : Sizes) (h : Shapes) (v : Values) (t : ℕ → Term) (o : ℕ → VExpr) (is : List ExprId) → EachPlace (λ j. ExactTerm w h v (t j) (meaning s (o j))) is
-    → Parts w (shapes_of h (terms_at t is)) (values_of h v (terms_at t is)) (part_meanings s o is)
+    → StandFor w (shapes_of h (terms_at t is)) (values_of h v (terms_at t is)) (part_meanings s o is)
 unfolding part_meanings
 parts_exact w s h v t o [] p = tt
 parts_exact w s h v t o (i ∷ is) p = (p.0, parts_exact w s h v t o is p.1)

@@ -1,3 +1,4 @@
+pub mod AllRows
 pub mod Leaves
 pub mod Parts
 pub mod Rows

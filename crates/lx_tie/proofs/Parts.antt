@@ -12,6 +12,7 @@ use Rattle.lx_num.proofs.Ranges.{negative_fits, signed_fits, fits_pos}
 use Rattle.lx_circuit.specs.Values.{copies, cat_pattern, count_of, replicate_value}
 use Rattle.lx_circuit.specs.Shapes.{bits_sum}
 use Rattle.lx_vmeaning.specs.Meaning.{Valuation, Meaning, own, fill_shift, arithmetic_right, select, concat, concat_bits, width_sum, repeat, repeated}
+use Rattle.lx_tie.specs.Rows.{reversed_onto, StandFor}
 use Rattle.lx_tie.specs.Stands.{Exact, Spreads}
 use Rattle.lx_tie.proofs.Leaves.{pow_le, modulo_negative, own_exact, exact_leaf}
 use Rattle.lx_tie.proofs.Texts.{amount_is}
@@ -99,17 +100,6 @@ exact_select u name n low len z e h le =
     exact_leaf u (low + len - 1 - low + 1) len false (pos (field_of z low len)) (λ v. v.nets name / 2 ^ low % 2 ^ (low + len - 1 - low + 1)) size h (fits_pos len (field_of z low len) small)
     (ap (λ (i : ℕ). u.nets name / 2 ^ low % 2 ^ i) size ∙ (ap (λ (i : ℕ). i / 2 ^ low % 2 ^ len) e ∙ (field_bits z n low len le ∙ sym (modulo-small (field_of z low len) (2 ^ len) small))))
 
--- parts that stand for numbers, each by itself
-abbrev pub Parts : Valuation → List Shape → List ℤ → List Meaning → Type 0
-Parts u [] [] [] = Unit {0}
-Parts u (s ∷ ss) (z ∷ zs) (e ∷ es) = Exact u s.bits s.signed z e × Parts u ss zs es
-Parts u _ _ _ = ⊥
-
--- the parts with the first one last, as a concatenation writes them
-abbrev pub reversed_onto : List Meaning → List Meaning → List Meaning
-reversed_onto [] done = done
-reversed_onto (e ∷ es) done = reversed_onto es (e ∷ done)
-
 width-reversed : (es done : List Meaning) → width_sum (reversed_onto es done) ≡ width_sum es + width_sum done
 width-reversed [] done = sym (zero-add (width_sum done))
 width-reversed (e ∷ es) done = width-reversed es (e ∷ done) ∙ (let p : width_sum es + (e.width + width_sum done) ≡ e.width + width_sum es + width_sum done = omega arith in p)
@@ -126,7 +116,7 @@ concat_bits-reversed u (e ∷ es) done =
     concat_bits-reversed u es (e ∷ done)
     ∙ (let p : low_first u es * 2 ^ (e.width + width_sum done) + (own e u * 2 ^ width_sum done + concat_bits done u) ≡ (own e u + 2 ^ e.width * low_first u es) * 2 ^ width_sum done + concat_bits done u = omega arith in p)
 
-low_first_is : (u : Valuation) (ss : List Shape) (zs : List ℤ) (es : List Meaning) → Parts u ss zs es → low_first u es ≡ cat_pattern ss zs
+low_first_is : (u : Valuation) (ss : List Shape) (zs : List ℤ) (es : List Meaning) → StandFor u ss zs es → low_first u es ≡ cat_pattern ss zs
 low_first_is u [] [] [] p = refl
 low_first_is u [] [] (e ∷ es) p = absurd p
 low_first_is u [] (z ∷ zs) es p = absurd p
@@ -136,7 +126,7 @@ low_first_is u (s ∷ ss) (z ∷ zs) (e ∷ es) p =
     ap (λ (k : ℕ). k + 2 ^ e.width * low_first u es) (own_exact u s.bits s.signed z e p.0)
     ∙ (ap (λ (k : ℕ). modulo z (2 ^ s.bits) + 2 ^ k * low_first u es) p.0.width ∙ ap (λ (k : ℕ). modulo z (2 ^ s.bits) + 2 ^ s.bits * k) (low_first_is u ss zs es p.1))
 
-width_sum_is : (u : Valuation) (ss : List Shape) (zs : List ℤ) (es : List Meaning) → Parts u ss zs es → width_sum es ≡ bits_sum ss
+width_sum_is : (u : Valuation) (ss : List Shape) (zs : List ℤ) (es : List Meaning) → StandFor u ss zs es → width_sum es ≡ bits_sum ss
 width_sum_is u [] [] [] p = refl
 width_sum_is u [] [] (e ∷ es) p = absurd p
 width_sum_is u [] (z ∷ zs) es p = absurd p
@@ -156,7 +146,7 @@ cat_below (s ∷ ss) (z ∷ zs) =
     omega arith
 
 -- parts with the first in the lowest bits, which is the last of the text
-pub exact_cat : (u : Valuation) (ss : List Shape) (zs : List ℤ) (es : List Meaning) → Parts u ss zs es → 1 ≤ bits_sum ss → Exact u (bits_sum ss) false (pos (cat_pattern ss zs)) (concat (reversed_onto es []))
+pub exact_cat : (u : Valuation) (ss : List Shape) (zs : List ℤ) (es : List Meaning) → StandFor u ss zs es → 1 ≤ bits_sum ss → Exact u (bits_sum ss) false (pos (cat_pattern ss zs)) (concat (reversed_onto es []))
 exact_cat u ss zs es p h =
     let below = cat_below ss zs in
     exact_leaf u (width_sum (reversed_onto es [])) (bits_sum ss) false (pos (cat_pattern ss zs)) (λ v. concat_bits (reversed_onto es []) v)

@@ -1,8 +1,9 @@
 -- The text of an operator, as its row of the table says, and what it means.
-use Rattle.std.specs.Prelude.{◌≡◌, ℤ, Bool, true, false, [], ◌∷◌}
+use Rattle.std.specs.Prelude.{◌≡◌, ℕ, ℤ, pos, Bool, true, false, List, [], ◌∷◌, ◌*◌, ◌≤◌}
 use Rattle.lx_num.specs.declared.Shape.{Shape}
 use Rattle.lx_tables.specs.declared.operators.Op.{Op}
-use Rattle.lx_tables.specs.declared.operators.Op.TheVariants.{Shl, Shr, Mux}
+use Rattle.lx_tables.specs.declared.operators.Op.TheVariants.{Shl, Shr, Mux, Cat, Replicate}
+use Rattle.lx_tables.specs.declared.operators.Mix.{Mix}
 use Rattle.lx_tables.specs.declared.operators.OpText.{OpText}
 use Rattle.lx_tables.specs.declared.operators.OpText.TheVariants as text
 use Rattle.lx_tables.specs.declared.operators.OpRow.{OpRow}
@@ -12,9 +13,9 @@ use Rattle.lx_vtext.specs.declared.operators.UnOp.TheVariants.{Negate, Invert}
 use Rattle.lx_vtext.specs.declared.operators.BinOp.{BinOp}
 use Rattle.lx_vtext.specs.declared.operators.BinOp.TheVariants as op
 use Rattle.lx_circuit.specs.Operands.{is_unary, is_binary}
-use Rattle.lx_circuit.specs.Shapes.{unary_shape, binary_shape, joined}
-use Rattle.lx_circuit.specs.Values.{unary_value, binary_value, mux_value}
-use Rattle.lx_vmeaning.specs.Meaning.{Valuation, Meaning, unary, binary, choose, as_signed, concat, literal}
+use Rattle.lx_circuit.specs.Shapes.{unary_shape, binary_shape, joined, bits_sum}
+use Rattle.lx_circuit.specs.Values.{unary_value, binary_value, mux_value, cat_pattern, replicate_value}
+use Rattle.lx_vmeaning.specs.Meaning.{Valuation, Meaning, unary, binary, choose, as_signed, concat, repeat, literal}
 use Rattle.lx_tie.specs.Stands.{Exact, Drives}
 
 -- the Verilog operator of a form with one operand
@@ -58,6 +59,22 @@ built_binary r a b = binary (binary_op r.text) (wide_if r.widen_left a) (wide_if
 abbrev pub built_choice : OpRow → Meaning → Meaning → Meaning → Meaning
 built_choice r c a b = choose c (wide_if r.widen_left a) (wide_if r.widen_right b)
 
+-- the parts with the first one last, as a concatenation has them
+abbrev pub reversed_onto : List Meaning → List Meaning → List Meaning
+reversed_onto [] done = done
+reversed_onto (e ∷ es) done = reversed_onto es (e ∷ done)
+
+-- parts joined, or one part so many times
+abbrev pub built_parts : OpText → ℕ → List Meaning → Meaning
+built_parts text.Repeated k (e ∷ []) = repeat k e
+built_parts _ k es = concat (reversed_onto es [])
+
+-- parts that stand for numbers, each by itself
+abbrev pub StandFor : Valuation → List Shape → List ℤ → List Meaning → Type 0
+StandFor u [] [] [] = Unit {0}
+StandFor u (s ∷ ss) (z ∷ zs) (e ∷ es) = Exact u s.bits s.signed z e × StandFor u ss zs es
+StandFor u _ _ _ = ⊥
+
 -- an amount is unsigned
 abbrev pub TakesRight : Op → Bool → Type 0
 TakesRight Shl s = s ≡ false
@@ -78,3 +95,21 @@ IsBinaryLaw = (u : Valuation) (op : Op) (a b : Shape) (x y : ℤ) (d e : Meaning
 abbrev pub IsChoiceLaw : Type 0
 IsChoiceLaw = (u : Valuation) (c a b : Shape) (z x y : ℤ) (f d e : Meaning) → Exact u c.bits c.signed z f → Exact u a.bits a.signed x d → Exact u b.bits b.signed y e
     → Drives u (joined a b).bits (mux_value z x y) (built_choice (row_of Mux (mix_of a.signed b.signed)) f d e)
+
+-- The text of a concatenation gives a net the bits of the joined parts, whatever their signs.
+abbrev pub IsPartsLaw : Type 0
+IsPartsLaw = (u : Valuation) (m : Mix) (ss : List Shape) (zs : List ℤ) (es : List Meaning) → StandFor u ss zs es → 1 ≤ bits_sum ss
+    → Drives u (bits_sum ss) (pos (cat_pattern ss zs)) (built_parts (row_of Cat m).text 1 es)
+
+-- And that of copies does.
+abbrev pub IsCopiesLaw : Type 0
+IsCopiesLaw = (u : Valuation) (m : Mix) (a : Shape) (k : ℕ) (x : ℤ) (d : Meaning) → 1 ≤ k → Exact u a.bits a.signed x d
+    → Drives u (k * a.bits) (replicate_value a k x) (built_parts (row_of Replicate m).text k (d ∷ []))
+
+-- All rows of the table: each operator beside each mix of signs.
+pub record AllRowsStand : Type 0 where
+  pub unary : IsUnaryLaw
+  pub binary : IsBinaryLaw
+  pub choice : IsChoiceLaw
+  pub parts : IsPartsLaw
+  pub copies : IsCopiesLaw

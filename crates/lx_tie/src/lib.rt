@@ -1,7 +1,7 @@
 //! How the Verilog text of each operator of FHDL stands for the operator's value.
 #![tactic(auto)]
 
-ghost use Rattle.lx_tie.specs.Rows.{IsBinaryLaw, IsChoiceLaw, IsUnaryLaw};
+ghost use Rattle.lx_tie.specs.Rows.{AllRowsStand, IsBinaryLaw, IsChoiceLaw, IsUnaryLaw};
 
 /// The text of an operator with one operand gives a net the bits of the operator's value.
 pub fn unary_law()
@@ -17,4 +17,9 @@ pub fn binary_law()
 /// The text of a choice between two operands does.
 pub fn choice_law()
     ensures { IsChoiceLaw }
+{}
+
+/// Each row of the table of operators does so, also where parts are joined or copied.
+pub fn rows_law()
+    ensures { AllRowsStand }
 {}
