@@ -1,10 +1,18 @@
 //! Lowering of circuits: one list of flat statements for each signal, with the same runs.
 #![tactic(auto)]
 
-ghost use Rattle.lx_lowering.specs.Lowering.{IsLoweringLaw};
+ghost use Rattle.lx_circuit.specs.Reads.{HasOrder};
+ghost use Rattle.lx_lowering.specs.Instance.{instance};
+ghost use Rattle.lx_lowering.specs.Lowering.{CanBeLowered, IsLoweringLaw};
 
 /// The lowered circuit has the same runs, plain statements, constants in place of those that read nothing,
 /// and an order of its reads where there was one.
 pub fn lowering_law()
     ensures { IsLoweringLaw }
+{}
+
+/// A circuit with a clock domain, a reset, and statements of every kind is one that `lowering_law` speaks of.
+pub fn instance_law()
+    ensures lowering { CanBeLowered instance }
+    ensures order { HasOrder instance }
 {}
