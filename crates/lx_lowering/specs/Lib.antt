@@ -4,3 +4,4 @@ pub mod Instance
 pub mod Lowering
 pub mod Split
 pub mod Terms
+pub mod Worked

@@ -4,6 +4,7 @@
 ghost use Rattle.lx_circuit.specs.Reads.{HasOrder};
 ghost use Rattle.lx_lowering.specs.Instance.{instance};
 ghost use Rattle.lx_lowering.specs.Lowering.{CanBeLowered, IsLoweringLaw};
+ghost use Rattle.lx_lowering.specs.Worked.{AreWorked};
 
 /// The lowered circuit has the same runs, plain statements, constants in place of those that read nothing,
 /// and an order of its reads where there was one.
@@ -15,4 +16,9 @@ pub fn lowering_law()
 pub fn instance_law()
     ensures lowering { CanBeLowered instance }
     ensures order { HasOrder instance }
+{}
+
+/// Lowered expressions, flat statements, a signal's own statements and constants are those worked by hand.
+pub fn lowerings_are_worked()
+    ensures { AreWorked }
 {}
