@@ -46,7 +46,7 @@ mutual
   some_name_nothing y (MoreTerms t ts) e = let p = and_parts (names_none t) (all_name_none ts) e in or_from (names y t) (some_names y ts) (names_nothing y t p.0) (some_name_nothing y ts p.1)
 
 -- the two blocks of a condition are for the signal, and one has statements
-both_for : (x : ℕ) (c : Term) (b rest : Block) → is_for x (If (Branch c b NoBranch) rest) ≡ true → (not (is_done b && is_done rest) ≡ true) × (are_for x b ≡ true) × (are_for x rest ≡ true)
+pub both_for : (x : ℕ) (c : Term) (b rest : Block) → is_for x (If (Branch c b NoBranch) rest) ≡ true → (not (is_done b && is_done rest) ≡ true) × (are_for x b ≡ true) × (are_for x rest ≡ true)
 both_for x c b rest e =
     let p = and_parts (not (is_done b && is_done rest)) ((are_for x b && true) && are_for x rest) e in
     let q = and_parts (are_for x b && true) (are_for x rest) p.1 in

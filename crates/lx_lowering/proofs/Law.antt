@@ -1,5 +1,5 @@
--- The law of lowering: the same runs, plain statements, and an order of reads where there was one.
-use Rattle.std.proofs.Common.{◌≡◌, ℕ, ◌<◌, length}
+-- The law of lowering: the same runs, plain statements, constants where they read nothing, and an order of reads where there was one.
+use Rattle.std.proofs.Common.{ℕ, ◌<◌, length}
 use Rattle.lx_num.specs.Ints.{Fits}
 use Rattle.lx_circuit.specs.Shapes.{Shapes}
 use Rattle.lx_circuit.specs.Values.{Values}

@@ -4,6 +4,8 @@ pub mod FlatReads
 pub mod FlatShape
 pub mod FlatTaken
 pub mod FoldFacts
+pub mod Folded
+pub mod Instance
 pub mod Law
 pub mod ListFacts
 pub mod LowerTerms

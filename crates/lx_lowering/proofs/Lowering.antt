@@ -18,6 +18,7 @@ use Rattle.lx_lowering.specs.Split.{split_block}
 use Rattle.lx_lowering.specs.Constants.{folded}
 use Rattle.lx_lowering.specs.Lowering.{TargetKeeps, TargetsKeep, StmtKeeps, BranchesKeep, ArmsKeep, BlockKeeps, CanBeLowered, lowered_comb, lowered_sync, lowered_domain, lowered, Lowers}
 use Rattle.lx_lowering.proofs.SplitFacts.{is_flat_block, split_pieces, split_for, split_drives, split_reads, split_keeps, split_depth}
+use Rattle.lx_lowering.proofs.Folded.{lists_folded}
 use Rattle.lx_lowering.proofs.FoldFacts.{folded_result, folded_for, folded_drives, folded_reads, folded_keeps, folded_depth}
 use Rattle.lx_lowering.proofs.ListFacts.{EachFor, lists_pieces, lists_drive, lists_end, lists_read, lists_plain, lists_keep, lists_depth}
 use Rattle.lx_lowering.proofs.SameRuns.{AllFit, IsAlike, SameDomains, same_resets, same_roles, same_runs, has_order}
@@ -169,13 +170,14 @@ alike c k l =
       sync = λ v f x d r. same_read (shapes c) x (v x) (taken_block (shapes c) v (domain_at c d).stmts) (taken_block (shapes c) v (domain_at (lowered c) d).stmts) (domain_pieces c l v f c.domains k.domains d x);
     }
 
--- where flat statements are as they should be, the lowered circuit has the same runs, plain statements, and an order
+-- where flat statements are as they should be, the lowered circuit has the same runs, plain statements, constants where it reads nothing, and an order
 pub lowers : (c : Circuit) → CanBeLowered c → FlatLaws (shapes c) (length c.signals) → Lowers c (lowered c)
 unfolding lowered
 lowers c k l = record {
   runs = same_runs c (lowered c) refl k.signals (alike c k l);
   comb = lists_plain (comb_of c) c.signals (comb_own c l k.comb);
   sync = domains_plain c l c.domains k.domains;
+  folded = record { each = λ x. lists_folded (shapes c) (λ y. (made c y).reset) (sync_of c c.comb) c.signals (comb_own c l k.comb) x };
   order = λ o. has_order c (lowered c) o (comb_reads c l k.comb);
 }
 

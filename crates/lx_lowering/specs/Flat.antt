@@ -1,7 +1,6 @@
 -- Flat statements: each assignment has a signal or its bits as target, and each branch stands under its own condition.
-use Rattle.std.specs.Prelude.{ℕ, ℤ, pos, Bool, true, false, not, ◌&&◌, ◌||◌, ◌+◌, ◌^◌, List, [], ◌∷◌, Option, Some, None, nat_eq, nat_lt, min, if◌then◌else◌}
+use Rattle.std.specs.Prelude.{ℕ, ℤ, pos, Bool, false, not, ◌&&◌, ◌||◌, ◌+◌, ◌^◌, List, [], ◌∷◌, Option, Some, None, nat_eq, nat_lt, min, if◌then◌else◌}
 use Rattle.std.specs.Ordering.{int_eq}
-use Rattle.lx_num.specs.declared.Shape.{Shape}
 use Rattle.lx_num.specs.Ints.{unsigned, wrapped}
 use Rattle.lx_tables.specs.declared.operators.Op.TheVariants as op
 use Rattle.lx_circuit.specs.Terms.{Term, Constant, Binary}

@@ -1,6 +1,5 @@
 -- Lowering keeps every run.
-use Rattle.std.specs.Prelude.{◌≡◌, ℕ, ℤ, Bool, true, false, ◌&&◌, List, [], ◌∷◌, ◌+◌, ◌<◌, ◌≤◌, Option, Some, None, nat_le, nat_lt, not, map, length, IsTrue}
-use Rattle.lx_num.specs.declared.Shape.{Shape}
+use Rattle.std.specs.Prelude.{◌≡◌, ◌⊎◌, ℕ, ℤ, Bool, true, false, ◌&&◌, List, [], ◌∷◌, ◌+◌, ◌<◌, ◌≤◌, None, nat_lt, map, length}
 use Rattle.lx_circuit.specs.Terms.{Term, Terms, Constant, Signal, Unary, Binary, Mux, Cat, Replicate, Slice, Pick, NoTerm, MoreTerms}
 use Rattle.lx_circuit.specs.Shapes.{Shapes, shape_of, fault_of}
 use Rattle.lx_circuit.specs.Values.{Values}
@@ -10,9 +9,9 @@ use Rattle.lx_circuit.specs.Reads.{HasOrder}
 use Rattle.lx_fhdl.specs.Nodes.{IsSmall}
 use Rattle.lx_fhdl.specs.Keeping.{EachOf}
 use Rattle.lx_fhdl.specs.Lowered.{ArePlain}
-use Rattle.lx_lowering.specs.Flat.{append, flat_block}
+use Rattle.lx_lowering.specs.Flat.{append, one, flat_block}
 use Rattle.lx_lowering.specs.Split.{split_block}
-use Rattle.lx_lowering.specs.Constants.{folded}
+use Rattle.lx_lowering.specs.Constants.{block_reads_none, folded}
 
 -- ---- what statements keep, over n signals
 
@@ -108,11 +107,21 @@ pub record HaveSameRuns (c e : Circuit) : Type 0 where
   pub there : (steps : List Step) (inputs : Values) → StepsFit c steps → InputsFit c inputs → (v : Values) → IsView c steps inputs v → IsView e steps inputs v
   pub back : (steps : List Step) (inputs : Values) → StepsFit c steps → InputsFit c inputs → (v : Values) → IsView e steps inputs v → IsView c steps inputs v
 
--- The lowered circuit has the same runs, its statements are plain, and its reads have an order too.
+-- one assignment of a constant to the whole signal, under no condition
+pub record IsOneConstant (s : Shapes) (x : ℕ) (b : Block) : Type 0 where
+  pub value : ℤ
+  pub alone : b ≡ one (Assign (Whole x) (Constant value (s x)))
+
+-- Where the combinatorial statements of a signal read no signal, there are none or the assignment of a constant.
+pub record IsFolded (c : Circuit) : Type 0 where
+  pub each : (x : ℕ) → block_reads_none (split_block x c.comb) ≡ true → (split_block x c.comb ≡ Done) ⊎ IsOneConstant (shapes c) x (split_block x c.comb)
+
+-- The lowered circuit has the same runs, its statements are plain, those that read nothing are constants, and its reads have an order too.
 pub record Lowers (c e : Circuit) : Type 0 where
   pub runs : HaveSameRuns c e
   pub comb : ArePlain e.comb
   pub sync : EachOf (λ (d : Domain). ArePlain d.stmts) e.domains
+  pub folded : IsFolded e
   pub order : HasOrder c → HasOrder e
 
 abbrev pub IsLoweringLaw : Type 0

@@ -1,6 +1,5 @@
 -- Expressions without picks, and right shifts by no more than the operand's bits.
-use Rattle.std.specs.Prelude.{ℕ, ℤ, pos, Bool, ◌+◌, ◌^◌, nat_le, nat_lt, min, if◌then◌else◌}
-use Rattle.lx_num.specs.declared.Shape.{Shape}
+use Rattle.std.specs.Prelude.{ℕ, pos, ◌+◌, ◌^◌, nat_le, nat_lt, if◌then◌else◌}
 use Rattle.lx_num.specs.Ints.{unsigned, wrapped}
 use Rattle.lx_tables.specs.declared.operators.Op.{Op}
 use Rattle.lx_tables.specs.declared.operators.Op.TheVariants as op

@@ -1,9 +1,24 @@
 //! Lowering of circuits: one list of flat statements for each signal, with the same runs.
 #![tactic(auto)]
 
-ghost use Rattle.lx_lowering.specs.Lowering.{IsLoweringLaw};
+ghost use Rattle.lx_circuit.specs.Reads.{HasOrder};
+ghost use Rattle.lx_lowering.specs.Instance.{instance};
+ghost use Rattle.lx_lowering.specs.Lowering.{CanBeLowered, IsLoweringLaw};
+ghost use Rattle.lx_lowering.specs.Worked.{AreWorked};
 
-/// The lowered circuit has the same runs, plain statements, and an order of its reads where there was one.
+/// The lowered circuit has the same runs, plain statements, constants in place of those that read nothing,
+/// and an order of its reads where there was one.
 pub fn lowering_law()
     ensures { IsLoweringLaw }
+{}
+
+/// A circuit with a clock domain, a reset, and statements of every kind is one that `lowering_law` speaks of.
+pub fn instance_law()
+    ensures lowering { CanBeLowered instance }
+    ensures order { HasOrder instance }
+{}
+
+/// Lowered expressions, flat statements, a signal's own statements and constants are those worked by hand.
+pub fn lowerings_are_worked()
+    ensures { AreWorked }
 {}
