@@ -16,7 +16,10 @@ pub mod Ports
 pub mod Reading
 pub mod Runs
 pub mod Setting
+pub mod Slices
 pub mod Steps
 pub mod Structure
+pub mod Swap
+pub mod Toggle
 pub mod Whole
 pub mod Within
