@@ -1,6 +1,6 @@
 -- The design `slices` can be emitted, and its text.
-use Rattle.std.proofs.Common.{◌≡◌, ℕ, Bool, true, false, ◌<◌, ◌≤◌, None, ◌&&◌, ◌||◌, nat_eq, subst, refl, arith, eqb-true, zero, suc}
-use Rattle.std.specs.Prelude.{if◌then◌else◌}
+use Rattle.std.proofs.Common.{◌≡◌, ℕ, true, false, ◌<◌, ◌≤◌, None, ◌&&◌, ◌||◌, nat_eq, refl, arith, zero, suc}
+use Rattle.std.proofs.lemmas.Bool.Decides.{nat_tests}
 use Rattle.lx_num.proofs.Ranges.{fits_pos}
 use Rattle.lx_tables.specs.PythonWords.{python_words}
 use Rattle.lx_tables.specs.VerilogWords.{verilog_words}
@@ -104,25 +104,15 @@ lowered = record {
 }
 
 -- s stands after c, which its second assignment reads
-rank : ℕ → ℕ
-rank x = if nat_eq 1 x then 1 else 0
+below : (x y : ℕ) → (nat_eq 1 x && false) || (((nat_eq 0 y && ((nat_eq 1 x || false) || false)) || (((nat_eq 1 x && false) || false) || false)) || false) ≡ true → y < x
+below x y h = grind (arith, nat_tests)
 
-both : (s c : Bool) → (s && false) || (((c && ((s || false) || false)) || (((s && false) || false) || false)) || false) ≡ true → (s ≡ true) × (c ≡ true)
-both true true h = (refl, refl)
-both true false h = absurd cc
-both false true h = absurd cc
-both false false h = absurd cc
-
-after : (x y : ℕ) → reads_block x y (circuit_of slices).comb ≡ true → rank y < rank x
-unfolding slices_exprs slices_targets slices_stmts slices_signals slices circuit_of term_at term_below target_at target_within stmt_at stmt_within rank
-after x y h =
-    let p = both (nat_eq 1 x) (nat_eq 0 y) h in
-    let e : 1 ≡ x = eqb-true 1 x p.0 in
-    let f : 0 ≡ y = eqb-true 0 y p.1 in
-    subst (λ (k : ℕ). rank y < rank k) e (subst (λ (k : ℕ). rank k < rank 1) f (omega arith))
+after : (x y : ℕ) → reads_block x y (circuit_of slices).comb ≡ true → y < x
+unfolding slices_exprs slices_targets slices_stmts slices_signals slices circuit_of term_at term_below target_at target_within stmt_at stmt_within
+after x y h = below x y h
 
 order : HasOrder (circuit_of slices)
-order = record { rank = rank; after = after }
+order = record { rank = λ x. x; after = after }
 
 clocks : (k : ℕ) → k < 0 → is_among (clock slices k) slices_names ≡ false
 unfolding slices clock_name
