@@ -22,7 +22,6 @@ use Rattle.lx_fhdl.specs.declared.design.Domain.{Domain}
 use Rattle.lx_fhdl.specs.declared.design.SyncPart.{SyncPart}
 use Rattle.lx_fhdl.specs.declared.stmts.Target.{Target}
 use Rattle.lx_fhdl.specs.declared.stmts.Target.TheVariants as target
-use Rattle.lx_fhdl.specs.declared.stmts.Branch.{Branch}
 use Rattle.lx_fhdl.specs.declared.stmts.Stmt.{Stmt}
 use Rattle.lx_fhdl.specs.declared.stmts.Stmt.TheVariants as statement
 use Rattle.lx_fhdl.specs.declared.design.Design.{Design}

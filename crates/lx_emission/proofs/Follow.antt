@@ -1,24 +1,20 @@
 -- The module follows the circuit: what is settled for the one is settled for the other, and so is the state after a step.
-use Rattle.std.proofs.Common.{◌≡◌, ℕ, ℤ, zero, suc, ◌+◌, ◌%◌, ◌^◌, ◌≤◌, ◌<◌, Bool, true, false, cond, ◌&&◌, not, max, List, [], ◌∷◌, map, length, Option, Some, None, refl, sym, ap, subst, ◌∙◌, arith}
-use Rattle.std.specs.Prelude.{slice_get, option_map}
+use Rattle.std.proofs.Common.{◌≡◌, ℕ, ℤ, ◌%◌, ◌^◌, ◌<◌, true, List, length, Option, Some, None, refl, sym, ap, subst, ◌∙◌, arith}
 use Rattle.std.proofs.Math.Nat.{mod-eq_of_lt}
 use Rattle.std.proofs.lemmas.List.{length-map}
 use Rattle.std.proofs.lemmas.Nat.{pow_pos, mod_below}
-use Rattle.lx_num.specs.declared.Shape.{Shape}
-use Rattle.lx_num.specs.Ints.{Fits, modulo, read_bits, wrapped, shape}
-use Rattle.lx_num.proofs.Ints.{modulo-below, modulo-modulo}
+use Rattle.lx_num.specs.Ints.{modulo, wrapped, shape}
+use Rattle.lx_num.proofs.Ints.{modulo-below}
 use Rattle.lx_num.proofs.Ranges.{modulo-read_bits, modulo-wrap_bits}
-use Rattle.lx_circuit.specs.Values.{Values, value_of, is_zero}
+use Rattle.lx_circuit.specs.Values.{Values, value_of}
 use Rattle.lx_circuit.specs.Statements.{Piece, after_pieces, taken_block, result}
-use Rattle.lx_circuit.specs.Circuit as circuit
-use Rattle.lx_circuit.specs.Circuit.{Circuit, Role, Input, Comb, Sync, Undriven, role, made, by_role, IsSettled, InputsFit, StateFits, KeepsShapes, next_state, first_state, next, risen, is_reset, domain_at}
+use Rattle.lx_circuit.specs.Circuit.{Role, Input, Comb, Sync, Undriven, role, by_role, IsSettled, InputsFit, StateFits}
 use Rattle.lx_circuit.proofs.Fitting.{settled_fits}
-use Rattle.lx_vtext.specs.Tree.{Name, VExpr, Literal, VBlock, EndBlock, VModule}
-use Rattle.lx_vmeaning.specs.Meaning.{Sizes, Valuation, meaning, assigned, cut_to, holds}
-use Rattle.lx_vmeaning.specs.Runs as runs
-use Rattle.lx_vmeaning.specs.Runs.{Driver, Outside, ByAssign, ByBlock, Nothing, drivers, driver, first_driver, by_driver, sizes, run_block, IsVSettled, v_next, v_first}
-use Rattle.lx_agree.specs.Agreement.{Naming, pattern, SameInputs}
-use Rattle.lx_agree.specs.Following.{SameState, SameValues, Settles, Steps, Follows}
+use Rattle.lx_vtext.specs.Tree.{Name, EndBlock}
+use Rattle.lx_vmeaning.specs.Meaning.{Valuation, meaning, assigned}
+use Rattle.lx_vmeaning.specs.Runs.{Outside, ByAssign, Nothing, driver, first_driver, by_driver, sizes, run_block, IsVSettled}
+use Rattle.lx_agree.specs.Agreement.{SameInputs}
+use Rattle.lx_agree.specs.Following.{SameState, Settles}
 use Rattle.lx_fhdl.specs.Below.{ExprId, StmtId, all_stmts_below}
 use Rattle.lx_fhdl.specs.Lowered.{ArePlain}
 use Rattle.lx_emission.specs.Texts.{block_onto, stmt_text}
@@ -28,19 +24,16 @@ use Rattle.lx_fhdl.specs.declared.design.Design.{Design}
 use Rattle.lx_fhdl.proofs.Designs as design
 use Rattle.lx_emission.specs.Naming.{net, node_net, clock, naming, NamesFit}
 use Rattle.lx_emission.specs.Nodes.{node_shape, operand, node_text}
-use Rattle.lx_emission.specs.Signals as drives
-use Rattle.lx_emission.specs.Signals.{Drive, Given, Held, Equal, Combined, Clocked, drive, drive_by, combined, own, single, shape_of_signal, reset_of_signal, reset_text, combined_body, clocked_body, literal_of, signal_net}
+use Rattle.lx_emission.specs.Signals.{Drive, Given, Held, Equal, Combined, Clocked, drive, drive_by, combined, own, single, reset_of_signal, reset_text}
 use Rattle.lx_emission.specs.Emission.{emitted}
 use Rattle.lx_emission.specs.Emits.{CanBeEmitted}
-use Rattle.lx_emission.proofs.Setting.{IsNetNode, DeclaresNets, HasPatterns, SignalsFit, TermsAreSmall, TermsFit, OperandsStand, driver_by}
-use Rattle.lx_emission.proofs.Names.{net_once, node_net_once, clock_once, net_not_clock, net_not_node, clock_not_node}
-use Rattle.lx_emission.proofs.Structure.{Class, OfSignal, OfNode, OfClock, OfNothing, IsNoSignal, IsNoNode, IsNoClock, name_classes, declares, clocked_within}
-use Rattle.lx_emission.proofs.Operands.{literal_exact, net_exact, cut_exact, holds_exact, operands_stand}
+use Rattle.lx_emission.proofs.Setting.{IsNetNode, HasPatterns, SignalsFit, OperandsStand, driver_by}
+use Rattle.lx_emission.proofs.Names.{net_once, node_net_once, net_not_clock, net_not_node, clock_not_node}
+use Rattle.lx_emission.proofs.Structure.{Class, OfSignal, OfNode, OfClock, OfNothing, IsNoSignal, IsNoNode, IsNoClock, name_classes, declares}
+use Rattle.lx_emission.proofs.Operands.{literal_exact, cut_exact, operands_stand}
 use Rattle.lx_emission.proofs.Drives.{node_text_drives}
 use Rattle.lx_emission.proofs.Pieces.{own_takes, own_for, own_below, pieces_below, single_value}
 use Rattle.lx_emission.proofs.Runs.{block_runs}
-use Rattle.lx_emission.proofs.Blocks as blocks
-use Rattle.lx_emission.proofs.Loop.{DriversAre, equal_side}
 use Rattle.lx_emission.proofs.Fitting.{signal_bits}
 use Rattle.lx_emission.proofs.Whole.{terms_small, drivers_are}
 
@@ -283,9 +276,8 @@ settled_for d names state inputs v v_state v_inputs can fits inputs_fit same_s s
     record { nets = λ n. settled_at d names state inputs v v_state v_inputs can now settled same_s same_i n (name_classes d names n); words = same_words d names v v_inputs v_state }
 
 pub settles : (d : Design) (names : List Name) → CanBeEmitted d names → Settles (circuit_of d) (emitted d names) (naming d names)
-settles d names can state inputs v v_state v_inputs fits inputs_fit same_s same_i settled =
-    (
-      patterns_of d names v v_inputs v_state,
-      settled_for d names state inputs v v_state v_inputs can fits inputs_fit same_s same_i settled,
-      record { each = λ x lt. net_pattern d names can.named v v_inputs v_state x (made_within d x lt) },
-    )
+settles d names can state inputs v v_state v_inputs fits inputs_fit same_s same_i settled = (
+  patterns_of d names v v_inputs v_state,
+  settled_for d names state inputs v v_state v_inputs can fits inputs_fit same_s same_i settled,
+  record { each = λ x lt. net_pattern d names can.named v v_inputs v_state x (made_within d x lt) },
+)

@@ -1,6 +1,7 @@
 pub mod BlockLawful
 pub mod BlockReads
 pub mod Blocks
+pub mod Branched
 pub mod Drivers
 pub mod Drives
 pub mod Fitting
@@ -9,6 +10,7 @@ pub mod Law
 pub mod Lawful
 pub mod Lists
 pub mod Loop
+pub mod Mixed
 pub mod Names
 pub mod Operands
 pub mod Pieces
@@ -16,7 +18,10 @@ pub mod Ports
 pub mod Reading
 pub mod Runs
 pub mod Setting
+pub mod Slices
 pub mod Steps
 pub mod Structure
+pub mod Swap
+pub mod Toggle
 pub mod Whole
 pub mod Within

@@ -1,5 +1,5 @@
 -- No net of the module depends on itself: ranks of signals by the design's order, and of nodes between them.
-use Rattle.std.proofs.Common.{◌≡◌, ℕ, zero, suc, ◌+◌, ◌*◌, ◌≤◌, ◌<◌, Bool, true, false, cond, ◌&&◌, ◌||◌, max, List, [], ◌∷◌, length, Option, Some, None, refl, sym, ap, subst, ◌∙◌, arith, inl, inr, ◌⊎◌, eq-eqb}
+use Rattle.std.proofs.Common.{◌≡◌, ℕ, suc, ◌+◌, ◌*◌, ◌≤◌, ◌<◌, Bool, true, false, cond, ◌||◌, max, List, [], ◌∷◌, length, Option, Some, None, refl, sym, ap, subst, ◌∙◌, arith, inl, inr, ◌⊎◌, eq-eqb}
 use Rattle.std.proofs.Math.Nat.{mul-le-mul_right}
 use Rattle.std.proofs.lemmas.Bool.{eqb-true, and_parts}
 use Rattle.std.specs.Prelude.{slice_get}
@@ -14,9 +14,9 @@ use Rattle.lx_fhdl.specs.declared.stmts.Stmt.{Stmt}
 use Rattle.lx_fhdl.specs.declared.stmts.Stmt.TheVariants as statement
 use Rattle.lx_circuit.specs.Reads as circuit
 use Rattle.lx_circuit.specs.Reads.{HasOrder, reads_block}
-use Rattle.lx_vtext.specs.Tree.{Name, VExpr, VModule, EndBlock}
-use Rattle.lx_vmeaning.specs.Runs.{Driver, Outside, ByAssign, ByBlock, Nothing, drivers, driver, first_driver}
-use Rattle.lx_vmeaning.specs.Cycle.{reads, driver_reads, block_reads, HasNoLoop}
+use Rattle.lx_vtext.specs.Tree.{Name, VModule, EndBlock}
+use Rattle.lx_vmeaning.specs.Runs.{Outside, ByAssign, drivers, driver, first_driver}
+use Rattle.lx_vmeaning.specs.Cycle.{reads, driver_reads, HasNoLoop}
 use Rattle.lx_fhdl.specs.Below.{ExprId, TargetId, StmtId}
 use Rattle.lx_fhdl.specs.Designs.{term, target, stmt, circuit_of, block}
 use Rattle.lx_fhdl.specs.Keeping.{Keeps}
@@ -24,16 +24,14 @@ use Rattle.lx_fhdl.specs.Lowered.{IsLowered, is_plain_target, is_for, are_for}
 use Rattle.lx_fhdl.specs.declared.design.Design.{Design}
 use Rattle.lx_emission.specs.Naming.{net, node_net, clock, NamesFit}
 use Rattle.lx_emission.specs.Nodes.{operand, node_text}
-use Rattle.lx_emission.specs.Signals as drives
-use Rattle.lx_emission.specs.Signals.{Drive, Given, Held, Equal, Combined, Clocked, drive, combined, drive_by, own, is_whole, whole_value, single, combined_body}
-use Rattle.lx_emission.specs.Emission.{emitted}
-use Rattle.lx_emission.proofs.Setting.{IsNetNode, IsSignalOf, IsNodeOf, MayRead, driver_by}
+use Rattle.lx_emission.specs.Signals.{Drive, Given, Held, Equal, Combined, Clocked, drive, combined, drive_by, own, is_whole, whole_value, single}
+use Rattle.lx_emission.proofs.Setting.{IsNetNode, MayRead, driver_by}
 use Rattle.lx_emission.proofs.Names.{net_once, node_net_once, net_not_clock, net_not_node, clock_not_node}
 use Rattle.lx_emission.proofs.Structure.{Class, OfSignal, OfNode, OfClock, OfNothing, IsNoSignal, IsNoNode, IsNoClock, name_classes, net_node_within}
 use Rattle.lx_emission.proofs.Reading.{operand_reads, node_text_reads}
-use Rattle.lx_emission.proofs.BlockReads.{TextReads, text_reads, own_reads}
+use Rattle.lx_emission.proofs.BlockReads.{text_reads, own_reads}
 use Rattle.lx_emission.proofs.Pieces.{own_for}
-use Rattle.lx_emission.proofs.Blocks.{IsOwnList, combined_own, combined_list}
+use Rattle.lx_emission.proofs.Blocks.{combined_own, combined_list}
 
 -- what drives each name of a module
 pub record DriversAre (d : Design) (names : List Name) (m : VModule) : Type 0 where
@@ -219,6 +217,7 @@ equal_list d x value e = by_role (role (circuit_of d) x) e
     by_single : (o : Option ExprId) → combined (own d x d.comb) o ≡ Equal value → o ≡ Some value
     by_single None h = absurd cc
     by_single (Some v) h = cc
+
     by_role : (r : Role) → drive_by d x r ≡ Equal value → single d (own d x d.comb) ≡ Some value
     by_role Input h = absurd cc
     by_role Comb h = by_single (single d (own d x d.comb)) h

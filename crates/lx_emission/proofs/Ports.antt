@@ -2,7 +2,6 @@
 use Rattle.std.proofs.Common.{◌≡◌, ℕ, ◌+◌, Bool, false, List, [], ◌∷◌, map, refl, ap, ◌∙◌}
 use Rattle.std.specs.Prelude.{Option, Some, None, option_map}
 use Rattle.std.proofs.lemmas.List.{map-append}
-use Rattle.lx_circuit.specs.Circuit as circuit
 use Rattle.lx_circuit.specs.Circuit.{Role, Input, Comb, Sync, Undriven, role, shapes}
 use Rattle.lx_vtext.specs.Tree.{Name}
 use Rattle.lx_agree.specs.Agreement as agreement

@@ -1,23 +1,23 @@
 -- What the parts of the proof tell one another: how nets are declared, what patterns they have, and what is read.
-use Rattle.std.proofs.Common.{◌≡◌, ℕ, Bool, true, false, not, List, [], ◌∷◌, ◌<◌, ◌≤◌, ◌^◌, length, ◌⊎◌}
-use Rattle.std.specs.Prelude.{Option, Some, None, slice_get, IsTrue}
+use Rattle.std.proofs.Common.{◌≡◌, ℕ, Bool, true, not, List, ◌<◌, ◌^◌, length, ◌⊎◌}
+use Rattle.std.specs.Prelude.{Some, slice_get}
 use Rattle.std.specs.Str.{bytes_eq}
 use Rattle.lx_num.specs.Ints.{Fits, modulo}
 use Rattle.lx_circuit.specs.Terms.{Term}
 use Rattle.lx_circuit.specs.Values.{Values, value_of, is_zero}
 use Rattle.lx_circuit.specs.Reads as circuit
-use Rattle.lx_vtext.specs.Tree.{Name, VModule, VBlock}
+use Rattle.lx_vtext.specs.Tree.{Name, VModule}
 use Rattle.lx_vtext.specs.Fits.{IsExpr}
 use Rattle.lx_vmeaning.specs.Meaning.{Declared, Sizes, Valuation, assigned, holds}
 use Rattle.lx_vmeaning.specs.Runs as runs
 use Rattle.lx_vmeaning.specs.Runs.{sizes, sets_block}
-use Rattle.lx_vmeaning.specs.Cycle.{is_readable, is_register, expr_fits}
+use Rattle.lx_vmeaning.specs.Cycle.{is_readable, expr_fits}
 use Rattle.lx_fhdl.specs.Nodes.{IsSmall}
 use Rattle.lx_fhdl.specs.Designs.{term, shapes}
 use Rattle.lx_fhdl.specs.declared.exprs.Expr.{Expr}
 use Rattle.lx_fhdl.specs.declared.design.Design.{Design}
 use Rattle.lx_emission.specs.Naming.{net, has_net, node_net}
-use Rattle.lx_emission.specs.Nodes.{node_shape, operand, node_text}
+use Rattle.lx_emission.specs.Nodes.{node_shape, operand}
 use Rattle.lx_emission.specs.Signals.{Drive, Given, Held, Equal, Combined, Clocked, drive, reset_text, combined_body, clocked_body}
 use Rattle.lx_emission.specs.Naming as naming
 

@@ -1,5 +1,5 @@
 -- The states after a step are the same, and so are the first ones.
-use Rattle.std.proofs.Common.{◌≡◌, ℕ, ℤ, zero, suc, ◌+◌, ◌%◌, ◌^◌, ◌≤◌, ◌<◌, Bool, true, false, cond, ◌&&◌, not, max, List, [], ◌∷◌, map, length, Option, Some, None, refl, sym, ap, subst, ◌∙◌, arith}
+use Rattle.std.proofs.Common.{◌≡◌, ℕ, ℤ, zero, suc, ◌+◌, ◌^◌, ◌<◌, Bool, true, false, cond, ◌&&◌, not, List, [], ◌∷◌, length, Option, Some, None, refl, sym, ap, ◌∙◌, arith}
 use Rattle.std.specs.Prelude.{slice_get, slice_index_or, option_map}
 use Rattle.std.proofs.lemmas.Nat.{pow_pos}
 use Rattle.lx_num.specs.Ints.{modulo, wrapped, shape}
@@ -16,17 +16,16 @@ use Rattle.lx_vmeaning.specs.Runs as runs
 use Rattle.lx_vmeaning.proofs.Views as v_views
 use Rattle.lx_vmeaning.specs.Runs.{IsVSettled, driver, first_driver, first_net, sizes, run_block, v_next, v_first, next_net}
 use Rattle.lx_agree.specs.Agreement.{pattern, SameInputs}
-use Rattle.lx_agree.specs.Following.{SameState, SameValues, Steps, Follows}
-use Rattle.lx_fhdl.specs.Below.{StmtId, all_stmts_below}
-use Rattle.lx_fhdl.specs.Designs.{term, shapes, signal_number, domain_of, domains_from, circuit_of, block, stmts_of}
-use Rattle.lx_fhdl.specs.Keeping.{Keeps}
+use Rattle.lx_agree.specs.Following.{SameState, Steps, Follows}
+use Rattle.lx_fhdl.specs.Below.{StmtId}
+use Rattle.lx_fhdl.specs.Designs.{shapes, signal_number, domain_of, domains_from, circuit_of, block, stmts_of}
 use Rattle.lx_fhdl.specs.declared.exprs.SigId.{SigId}
 use Rattle.lx_fhdl.specs.declared.design.Domain.{Domain}
 use Rattle.lx_fhdl.specs.declared.design.Design.{Design}
 use Rattle.lx_fhdl.proofs.Designs as design
 use Rattle.lx_fhdl.proofs.Arena.{node_there}
-use Rattle.lx_emission.specs.Naming.{net, node_net, clock, naming, NamesFit}
-use Rattle.lx_emission.specs.Signals.{Drive, Clocked, drive, drive_by, own, reset_of_signal, reset_text, domain_reset, reset_block, clocked_body, literal_of, init_of, shape_of_signal, signal_net}
+use Rattle.lx_emission.specs.Naming.{net, node_net, clock, naming}
+use Rattle.lx_emission.specs.Signals.{Drive, Clocked, drive, drive_by, own, reset_of_signal, reset_text, domain_reset, reset_block, clocked_body, init_of, shape_of_signal, signal_net}
 use Rattle.lx_emission.specs.Emission.{emitted}
 use Rattle.lx_emission.specs.Emits.{CanBeEmitted}
 use Rattle.lx_emission.proofs.Setting.{HasPatterns, SignalsFit, driver_by}
@@ -38,7 +37,7 @@ use Rattle.lx_emission.proofs.Runs.{block_runs}
 use Rattle.lx_emission.proofs.Blocks.{sync_plain, sync_below, clocked_some, clocked_own, reset_within}
 use Rattle.lx_emission.proofs.Within.{list_made}
 use Rattle.lx_emission.proofs.Whole.{cycle_meaning, drivers_are}
-use Rattle.lx_emission.proofs.Follow.{Moment, moment, patterns_of, has_patterns, settled_for, settles, net_bits, reset_assigned, own_pattern}
+use Rattle.lx_emission.proofs.Follow.{Moment, moment, patterns_of, has_patterns, settled_for, settles, reset_assigned, own_pattern}
 
 -- ---- the domain of a number
 

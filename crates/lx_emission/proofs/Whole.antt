@@ -1,35 +1,32 @@
 -- The module has a cycle meaning, and a text.
-use Rattle.std.proofs.Common.{◌≡◌, ℕ, ◌+◌, ◌≤◌, ◌<◌, Bool, true, false, ◌&&◌, not, List, [], ◌∷◌, length, Option, Some, None, refl, sym, ap, subst, ◌∙◌, arith, nat_le, nat_eq, eq-eqb}
-use Rattle.std.specs.Prelude.{IsTrue, IfSome, is_some, slice_get}
+use Rattle.std.proofs.Common.{◌≡◌, ℕ, ◌≤◌, ◌<◌, Bool, true, false, ◌&&◌, not, List, [], ◌∷◌, length, None, refl, sym, ap, subst, ◌∙◌, arith, nat_le, nat_eq}
+use Rattle.std.specs.Prelude.{IsTrue, IfSome, is_some}
 use Rattle.std.specs.List.{list_all, AllByRecursion}
 use Rattle.std.proofs.lemmas.Bool.{le-leb, and_parts}
 use Rattle.std.specs.Prelude.{ℤ}
 use Rattle.lx_num.specs.declared.Shape.{Shape}
-use Rattle.lx_circuit.specs.Reads.{HasOrder}
-use Rattle.lx_vtext.specs.Tree.{Name, VExpr, VNet, VPort, VDecl, NetDecl, VAssign, VAlways, VBlock, VModule}
+use Rattle.lx_vtext.specs.Tree.{Name, VExpr, VModule}
 use Rattle.lx_vtext.specs.Names.{is_name}
-use Rattle.lx_vtext.specs.Fits.{IsNet, IsPort, IsSet, IsDecl, IsAssign, IsAlways, IsValue, IsModule, IsExpr}
-use Rattle.lx_vmeaning.specs.Runs.{Driver, drivers, all_nets, decl_memories, sizes}
+use Rattle.lx_vtext.specs.Fits.{IsNet, IsPort, IsSet, IsDecl, IsAssign, IsAlways, IsValue, IsModule}
+use Rattle.lx_vmeaning.specs.Runs.{Driver, drivers}
 use Rattle.lx_vmeaning.specs.Cycle.{HasCycleMeaning, net_fits, is_declared_width, assign_fits, always_fits, memory_fits, is_net, is_register, is_readable, expr_fits, is_clock, belongs}
-use Rattle.lx_fhdl.specs.Nodes.{IsSmall}
-use Rattle.lx_fhdl.specs.Below.{ExprId, StmtId}
 use Rattle.lx_fhdl.specs.Keeping.{Keeps, IsDomain}
 use Rattle.lx_fhdl.specs.declared.design.Design.{Design}
 use Rattle.lx_fhdl.proofs.Designs as design
-use Rattle.lx_emission.specs.Naming.{net, nets_before, node_net, clock, clock_name, NamesFit}
+use Rattle.lx_emission.specs.Naming.{net, nets_before, node_net, clock, NamesFit}
 use Rattle.lx_emission.specs.Nodes.{node_shape, operand, node_text}
-use Rattle.lx_emission.specs.Signals.{Drive, Given, Held, Equal, Combined, Clocked, drive, init_of, literal_of, shape_of_signal, reset_of_signal, reset_text, signal_net, combined_body, clocked_body}
-use Rattle.lx_emission.specs.Emission.{wire, signal_port, is_given, emitted}
+use Rattle.lx_emission.specs.Signals.{Drive, Given, Held, Equal, Combined, Clocked, drive, init_of, shape_of_signal, reset_of_signal, reset_text, signal_net}
+use Rattle.lx_emission.specs.Emission.{signal_port, is_given, emitted}
 use Rattle.lx_emission.specs.Emits.{CanBeEmitted}
-use Rattle.lx_emission.proofs.Setting.{IsNetNode, TermsAreSmall, OperandsFit, LetsRead, BlocksSetAlone, OperandsAreLawful, driver_by}
-use Rattle.lx_emission.proofs.Names.{IsAt, domain_at, each_of}
-use Rattle.lx_emission.proofs.Structure.{clock_port, node_wire, clock_wire, net_name, declared_once, no_memories, lets_read, is_register_signal, is_register_node, clock_is_input, clocked_within, net_node_within, each_net, each_assign, each_always, ports_hold, decls_hold, assigns_hold, blocks_hold}
+use Rattle.lx_emission.proofs.Setting.{IsNetNode, TermsAreSmall, driver_by}
+use Rattle.lx_emission.proofs.Names.{domain_at, each_of}
+use Rattle.lx_emission.proofs.Structure.{clock_port, node_wire, clock_wire, declared_once, no_memories, lets_read, is_register_signal, is_register_node, clock_is_input, clocked_within, net_node_within, each_net, each_assign, each_always, ports_hold, decls_hold, assigns_hold, blocks_hold}
 use Rattle.lx_emission.proofs.Drivers.{drivers_signal, drivers_node, drivers_clock, drivers_none}
 use Rattle.lx_emission.proofs.Fitting.{operands_fit, node_text_fits, reset_text_fits, signal_bits}
 use Rattle.lx_emission.proofs.Lawful.{node_name_lawful, clock_name_lawful, net_lawful, operands_lawful, node_text_lawful, reset_lawful, reset_value_lawful}
 use Rattle.lx_emission.proofs.Blocks.{blocks_set_alone, combined_fits, clocked_fits}
 use Rattle.lx_emission.proofs.BlockLawful.{combined_lawful, clocked_lawful}
-use Rattle.lx_emission.proofs.Loop.{DriversAre, IsRightSide, equal_side, no_loop}
+use Rattle.lx_emission.proofs.Loop.{DriversAre, equal_side, no_loop}
 
 -- all expressions have 1 to 127 bits
 pub terms_small : (d : Design) → Keeps d → TermsAreSmall d

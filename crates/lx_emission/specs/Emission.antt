@@ -1,8 +1,8 @@
 -- The module of a lowered design.
-use Rattle.std.specs.Prelude.{ℕ, Bool, true, false, not, ◌||◌, List, [], ◌∷◌, ◌++◌, ◌+◌, Option, Some, None, map, flat_map, option_map, slice_get, if◌then◌else◌}
+use Rattle.std.specs.Prelude.{ℕ, Bool, true, false, ◌||◌, List, [], ◌∷◌, ◌++◌, ◌+◌, Option, Some, None, map, flat_map, slice_get, if◌then◌else◌}
 use Rattle.lx_circuit.specs.Circuit as circuit
 use Rattle.lx_vtext.specs.Tree.{Name, VNet, VPort, VDecl, NetDecl, VAssign, VModule}
-use Rattle.lx_fhdl.specs.Designs.{circuit_of, signal_number}
+use Rattle.lx_fhdl.specs.Designs.{circuit_of}
 use Rattle.lx_fhdl.specs.declared.exprs.SigId.{SigId}
 use Rattle.lx_fhdl.specs.declared.exprs.Expr.{Expr}
 use Rattle.lx_fhdl.specs.declared.design.Domain.{Domain}

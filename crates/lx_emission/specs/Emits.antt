@@ -1,12 +1,12 @@
 -- What the module of a lowered design is.
-use Rattle.std.specs.Prelude.{◌≡◌, ℕ, Bool, true, false, not, ◌&&◌, List, [], ◌∷◌, map, IsTrue}
+use Rattle.std.specs.Prelude.{◌≡◌, ℕ, Bool, true, not, ◌&&◌, List, [], ◌∷◌, IsTrue}
 use Rattle.lx_circuit.specs.Circuit as circuit
 use Rattle.lx_circuit.specs.Reads.{HasOrder}
 use Rattle.lx_vtext.specs.Tree.{Name, VModule}
 use Rattle.lx_vtext.specs.Fits.{IsModule}
 use Rattle.lx_vmeaning.specs.Cycle.{HasCycleMeaning}
 use Rattle.lx_agree.specs.Agreement.{Agrees, HasPorts}
-use Rattle.lx_fhdl.specs.Designs.{circuit_of, signal_number}
+use Rattle.lx_fhdl.specs.Designs.{circuit_of}
 use Rattle.lx_fhdl.specs.Keeping.{Keeps}
 use Rattle.lx_fhdl.specs.Lowered.{IsLowered}
 use Rattle.lx_fhdl.specs.declared.design.Design.{Design}

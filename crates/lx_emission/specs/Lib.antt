@@ -1,5 +1,6 @@
 pub mod Emission
 pub mod Emits
+pub mod Instance
 pub mod Naming
 pub mod Nodes
 pub mod Signals

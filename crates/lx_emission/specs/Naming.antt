@@ -1,5 +1,5 @@
 -- The names of nets: a signal's is handed in, a node's is `n$<k>`, a clock's is `<domain>_clk`.
-use Rattle.std.specs.Prelude.{◌≡◌, ℕ, Bool, true, false, List, [], ◌∷◌, ◌++◌, ◌+◌, ◌<◌, codes, length, Option, Some, None, slice_get, slice_index_or, if◌then◌else◌, IsTrue}
+use Rattle.std.specs.Prelude.{◌≡◌, ℕ, Bool, true, false, List, [], ◌∷◌, ◌++◌, ◌<◌, codes, length, Option, Some, None, slice_get, slice_index_or, if◌then◌else◌, IsTrue}
 use Rattle.std.proofs.Common.{zero, suc}
 use Rattle.std.specs.List.{list_all, list_any}
 use Rattle.std.specs.Str.{bytes_eq}

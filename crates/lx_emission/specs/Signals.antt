@@ -1,10 +1,9 @@
 -- What drives the net of each signal.
-use Rattle.std.specs.Prelude.{ℕ, ℤ, Bool, true, false, not, List, [], ◌∷◌, ◌^◌, Option, Some, None, slice_get, if◌then◌else◌}
+use Rattle.std.specs.Prelude.{ℕ, ℤ, Bool, true, false, List, [], ◌∷◌, ◌^◌, Option, Some, None, slice_get, if◌then◌else◌}
 use Rattle.lx_num.specs.declared.Shape.{Shape}
 use Rattle.lx_num.specs.Ints.{modulo}
 use Rattle.lx_circuit.specs.Statements.{drives}
 use Rattle.lx_circuit.specs.Circuit.{Role, Input, Comb, Sync, Undriven, role, made}
-use Rattle.lx_vtext.specs.Tree as tree
 use Rattle.lx_vtext.specs.Tree.{Name, VExpr, Net, Literal, Whole, Assign, When, NoElse, VBlock, EndBlock, InBlock, VLiteral, VNet, VAssign, VAlways}
 use Rattle.lx_fhdl.specs.Below.{ExprId, StmtId}
 use Rattle.lx_fhdl.specs.Designs.{stmt, shapes, stmts_of, circuit_of}

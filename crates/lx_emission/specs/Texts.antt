@@ -1,5 +1,5 @@
 -- The text of statements.
-use Rattle.std.specs.Prelude.{ℕ, Bool, true, false, List, [], ◌∷◌, Option, Some, None, ◌+◌, ◌-◌, ◌&&◌, nat_eq, slice_get, if◌then◌else◌}
+use Rattle.std.specs.Prelude.{ℕ, Bool, List, [], ◌∷◌, Option, Some, ◌+◌, ◌-◌, ◌&&◌, nat_eq, slice_get, if◌then◌else◌}
 use Rattle.std.proofs.Common.{zero, suc}
 use Rattle.lx_vtext.specs.Tree.{Name, VExpr, Net, VTarget, Whole, Part, VStmt, Assign, When, VElse, NoElse, Else, VBlock, EndBlock, InBlock}
 use Rattle.lx_fhdl.specs.Below.{StmtId}

@@ -1,0 +1,129 @@
+-- The design `swap` can be emitted, and its text.
+use Rattle.std.proofs.Common.{◌≡◌, ℕ, true, false, ◌<◌, ◌≤◌, None, refl, arith, zero, suc}
+use Rattle.lx_num.proofs.Ranges.{fits_pos}
+use Rattle.lx_tables.specs.PythonWords.{python_words}
+use Rattle.lx_tables.specs.VerilogWords.{verilog_words}
+use Rattle.lx_arena.specs.Lower.{EachLower}
+use Rattle.lx_circuit.specs.Shapes.{fault_of}
+use Rattle.lx_circuit.specs.Statements as tree
+use Rattle.lx_circuit.specs.Reads.{HasOrder}
+use Rattle.lx_vtext.specs.Names.{is_name}
+use Rattle.lx_vtext.specs.Printed.{number_text, literal_text, range_text, head_text, assign_text, always_text, module_text}
+use Rattle.lx_fhdl.specs.Below.{expr_below, target_below, stmt_below}
+use Rattle.lx_fhdl.specs.Nodes.{HasParts}
+use Rattle.lx_fhdl.specs.Trees.{term_below, term_at}
+use Rattle.lx_fhdl.specs.Stmts.{target_within, target_at, stmt_within, stmt_at}
+use Rattle.lx_fhdl.specs.Designs as design
+use Rattle.lx_fhdl.specs.Designs.{circuit_of, shapes}
+use Rattle.lx_fhdl.specs.Keeping.{EachOf, NamesBelow, IsSignal, TargetStands, StmtStands, Keeps, TakesOperands}
+use Rattle.lx_fhdl.specs.Lowered.{IsLowered, is_no_pick}
+use Rattle.lx_fhdl.specs.declared.exprs.Expr.{Expr}
+use Rattle.lx_fhdl.proofs.Instance.{each_of_at}
+use Rattle.lx_emission.specs.Naming.{NamesFit, is_among, clock, nets_before, node_name, clock_name}
+use Rattle.lx_emission.specs.Nodes.{node_shape, operand, node_text}
+use Rattle.lx_emission.specs.Texts.{stmt_text_within, stmt_text}
+use Rattle.lx_emission.specs.Signals.{own, drive, signal_net, signal_assign, signal_always}
+use Rattle.lx_emission.specs.Emission.{ports_of, is_port, inner_decl, node_decl, node_assign, decls_of, emitted}
+use Rattle.lx_emission.specs.Emits.{CanBeEmitted, PortsFit}
+use Rattle.lx_emission.specs.Instance.{swap_exprs, swap_targets, swap_stmts, swap_signals, swap, swap_names, swap_text}
+
+exprs_lower : EachLower expr_below swap_exprs
+unfolding swap_exprs
+exprs_lower zero = refl
+exprs_lower (suc zero) = refl
+exprs_lower (suc (suc k)) = tt
+
+targets_lower : EachLower target_below swap_targets
+unfolding swap_targets
+targets_lower zero = refl
+targets_lower (suc zero) = refl
+targets_lower (suc (suc k)) = tt
+
+stmts_lower : EachLower stmt_below swap_stmts
+unfolding swap_stmts
+stmts_lower zero = refl
+stmts_lower (suc zero) = refl
+stmts_lower (suc (suc k)) = tt
+
+shaped : (k : ℕ) → k < 2 → fault_of (shapes swap) (design.term swap k) ≡ None
+unfolding swap_exprs swap_signals swap circuit_of term_at term_below
+shaped zero h = refl
+shaped (suc zero) h = refl
+shaped (suc (suc k)) h = absurd (omega arith)
+
+target_bits : (k : ℕ) → k < 2 → tree.target_bits (shapes swap) (design.target swap k) ≤ 127
+unfolding swap_exprs swap_targets swap_signals swap circuit_of target_at target_within
+target_bits zero h = omega arith
+target_bits (suc zero) h = omega arith
+target_bits (suc (suc k)) h = absurd (omega arith)
+
+signals : EachOf IsSignal swap_signals
+unfolding swap_signals python_words
+signals = (record { some = omega arith; most = omega arith; reset = fits_pos 2 1 (omega arith); path = refl }, (record { some = omega arith; most = omega arith; reset = fits_pos 2 2 (omega arith); path = refl }, (record { some = omega arith; most = omega arith; reset = fits_pos 1 0 (omega arith); path = refl }, tt)))
+
+targets : EachOf (TargetStands swap) swap_targets
+unfolding swap_exprs swap_targets swap_signals swap circuit_of term_at term_below
+targets = (omega arith, (omega arith, tt))
+
+stmts : EachOf (StmtStands swap) swap_stmts
+unfolding swap_exprs swap_targets swap_stmts swap
+stmts = ((omega arith, omega arith), ((omega arith, omega arith), tt))
+
+keeps : Keeps swap
+unfolding swap_exprs swap_targets swap_stmts swap_signals swap circuit_of term_at term_below target_at target_within stmt_at stmt_within python_words
+keeps = record {
+  exprs_lower = exprs_lower;
+  targets_lower = targets_lower;
+  stmts_lower = stmts_lower;
+  shaped = shaped;
+  operands = each_of_at TakesOperands swap_exprs (tt, (tt, tt));
+  parts = each_of_at HasParts swap_exprs (tt, (tt, tt));
+  named = each_of_at (NamesBelow 3) swap_exprs (omega arith, (omega arith, tt));
+  signals = signals;
+  targets = each_of_at (TargetStands swap) swap_targets targets;
+  target_bits = target_bits;
+  stmts = each_of_at (StmtStands swap) swap_stmts stmts;
+  comb = record { there = refl; depth = omega arith };
+  sync = (record { domain = omega arith; stmts = record { there = refl; depth = omega arith } }, (record { domain = omega arith; stmts = record { there = refl; depth = omega arith } }, tt));
+  domains = (record { name = refl; reset = tt }, (record { name = refl; reset = refl }, tt));
+  domains_most = omega arith;
+  domains_distinct = refl;
+  ios = (omega arith, (omega arith, tt));
+}
+
+lowered : IsLowered swap
+unfolding swap_exprs swap_targets swap_stmts swap_signals swap circuit_of term_at term_below target_at target_within stmt_at stmt_within
+lowered = record {
+  exprs = each_of_at (λ (x : Expr). is_no_pick x ≡ true) swap_exprs (refl, (refl, tt));
+  comb = tt;
+  sync = ((record { signal = 0; alone = refl }, tt), ((record { signal = 1; alone = refl }, tt), tt));
+}
+
+order : HasOrder (circuit_of swap)
+unfolding swap circuit_of
+order = record { rank = λ x. 0; after = λ x y h. absurd (cc) }
+
+clocks : (k : ℕ) → k < 2 → is_among (clock swap k) swap_names ≡ false
+unfolding swap clock_name
+clocks zero h = refl
+clocks (suc zero) h = refl
+clocks (suc (suc k)) h = absurd (omega arith)
+
+nodes : (n : ℕ) → is_among (node_name n) swap_names ≡ false
+unfolding node_name
+nodes n = refl
+
+named : NamesFit swap swap_names
+unfolding swap_signals swap is_name verilog_words
+named = record { long = refl; lawful = refl; distinct = refl; clocks = clocks; nodes = nodes }
+
+ports : PortsFit swap
+unfolding swap circuit_of
+ports = record { once = refl; resets = refl }
+
+pub can : CanBeEmitted swap swap_names
+can = record { keeps = keeps; lowered = lowered; order = order; named = named; ports = ports }
+
+pub text : module_text (emitted swap swap_names) ≡ swap_text
+unfolding swap_exprs swap_targets swap_stmts swap_signals swap circuit_of term_at term_below target_at target_within stmt_at stmt_within nets_before node_name clock_name node_shape operand node_text stmt_text_within stmt_text own drive signal_net signal_assign signal_always ports_of is_port inner_decl node_decl node_assign decls_of emitted number_text literal_text range_text head_text assign_text always_text module_text
+text = refl
