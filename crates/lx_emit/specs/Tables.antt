@@ -2,11 +2,13 @@
 use Rattle.std.specs.Prelude.{◌≡◌, ℕ, ◌<◌, List, length, slice_index_or}
 use Rattle.lx_num.specs.declared.Shape.{Shape}
 use Rattle.lx_vtext.specs.Tree as tree
+use Rattle.lx_vtext.specs.Tree.{Name}
 use Rattle.lx_vtree.specs.declared.nodes.VExpr.{VExpr}
 use Rattle.lx_vtree.specs.Trees.{tree_at}
 use Rattle.lx_vtree.specs.Growth.{Grows}
 use Rattle.lx_fhdl.specs.Nodes.{shape_at}
 use Rattle.lx_fhdl.specs.declared.design.Design.{Design}
+use Rattle.lx_fhdl.specs.Keeping.{Keeps}
 use Rattle.lx_emission.specs.Naming.{nets_before}
 use Rattle.lx_emission.specs.Nodes.{node_shape}
 
@@ -25,3 +27,10 @@ pub record Put (old new : List VExpr) (id : ℕ) (t : tree.VExpr) : Type 0 where
   pub grows : Grows old new
   pub within : id < length new
   pub tree : tree_at new id ≡ t
+
+-- a design that keeps what it must, a name for each signal, and the tables of its nodes
+pub record IsSheet (d : Design) (names : List Name) (hs : List Shape) (ns : List ℕ) : Type 0 where
+  pub keeps : Keeps d
+  pub named : length names ≡ length d.signals
+  pub shapes : AreShapes d hs
+  pub numbers : AreNumbers d ns
