@@ -1,3 +1,4 @@
 pub mod Operands
 pub mod Counted
 pub mod Shaped
+pub mod Puts

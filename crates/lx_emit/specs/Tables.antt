@@ -1,10 +1,11 @@
 -- What is counted once for all nodes of a design, and trees that are put into an arena.
-use Rattle.std.specs.Prelude.{◌≡◌, ℕ, ◌<◌, List, length, slice_index_or}
+use Rattle.std.specs.Prelude.{◌≡◌, ℕ, ◌<◌, List, length, slice_index_or, IsTrue}
 use Rattle.lx_num.specs.declared.Shape.{Shape}
 use Rattle.lx_vtext.specs.Tree as tree
 use Rattle.lx_vtext.specs.Tree.{Name}
 use Rattle.lx_vtree.specs.declared.nodes.VExpr.{VExpr}
-use Rattle.lx_vtree.specs.Trees.{tree_at}
+use Rattle.lx_vtree.specs.Below.{Ref, are_below}
+use Rattle.lx_vtree.specs.Trees.{tree_at, plants}
 use Rattle.lx_vtree.specs.Growth.{Grows}
 use Rattle.lx_fhdl.specs.Nodes.{shape_at}
 use Rattle.lx_fhdl.specs.declared.design.Design.{Design}
@@ -34,3 +35,9 @@ pub record IsSheet (d : Design) (names : List Name) (hs : List Shape) (ns : List
   pub named : length names ≡ length d.signals
   pub shapes : AreShapes d hs
   pub numbers : AreNumbers d ns
+
+-- trees more hang in the arena, at these places
+pub record PutParts (old new : List VExpr) (ids : List Ref) (t : tree.VExprs) : Type 0 where
+  pub grows : Grows old new
+  pub within : IsTrue (are_below ids (length new))
+  pub trees : plants (tree_at new) ids ≡ t

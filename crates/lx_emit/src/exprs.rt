@@ -1,20 +1,37 @@
-//! Expressions: operands, and what drives the nets of operators and slices.
+//! Expressions: operands, and what drives the nets of operators and slices (IEEE 1364-2005, "Expressions").
 
-ghost use Rattle.std.specs.Prelude.{◌≡◌, ◌<◌, ◌^◌, length, IfOk, IsTrue, slice_index_or};
+ghost use Rattle.std.specs.Prelude.{◌≡◌, ◌<◌, ◌≤◌, ◌^◌, ◌/◌, ◌%◌, ◌-◌, true, false, Some, length, slice_get, IfOk, IsTrue};
 ghost use Rattle.lx_num.specs.Ints.{modulo};
+ghost use Rattle.lx_tables.specs.Operators.{mix_of};
+ghost use Rattle.lx_tie.specs.Rows.{unary_op, binary_op};
 ghost use Rattle.lx_vtext.specs.Tree as tree;
-ghost use Rattle.lx_vtree.specs.Trees.{tree_at};
-ghost use Rattle.lx_emission.specs.Naming.{node_name};
-ghost use Rattle.lx_emission.specs.Nodes.{operand};
-ghost use Rattle.lx_emit.specs.Tables.{IsSheet, Put};
+ghost use Rattle.lx_vtree.specs.Below.{are_below};
+ghost use Rattle.lx_vtree.specs.Growth.{Grows};
+ghost use Rattle.lx_vtree.specs.Trees.{tree_at, plants};
+ghost use Rattle.lx_fhdl.specs.Below.{all_below};
+ghost use Rattle.lx_fhdl.specs.Lowered.{is_no_pick};
+ghost use Rattle.lx_fhdl.specs.declared.exprs.Expr.{Expr};
+ghost use Rattle.lx_emission.specs.Naming.{has_net, node_name};
+ghost use Rattle.lx_emission.specs.Nodes.{operand, node_text, wide_if, unary_text, binary_text, choice_text, parts_onto, cat_text, slice_text};
+ghost use Rattle.lx_emit.specs.Operands.{tree_of};
+ghost use Rattle.lx_emit.specs.Tables.{IsSheet, Put, PutParts};
 
 use crate::tables::Sheet;
 use lx_arena::Arena;
 use lx_fhdl::{Expr, ExprId};
 use lx_num::field;
-use lx_text::{NoMemory, Text, Word};
-use lx_vtree::{Literal, VExpr, add_expr};
+use lx_tables::{Mix, OpRow, OpText, op_row};
+use lx_text::{List, NoMemory, Text, Word};
+use lx_vtext::{BinOp, UnOp};
+use lx_vtree::{ExprId as VExprId, Literal, VExpr, add_expr};
 use std::alloc::Global;
+
+/// An expression where it is read: a constant is a literal, and all others are the names of nets.
+#[derive(Drop)]
+pub enum Operand {
+    Literal(Literal),
+    Net(Word),
+}
 
 /// The name of the net of number `n` among those of operators and slices.
 #[tactic(
@@ -31,42 +48,6 @@ pub fn node_name(alloc: Global, n: usize) -> Result<Word, NoMemory>
     Word::new(alloc, text.as_bytes())
 }
 
-/// Adds the name of a net.
-pub fn put_net(out: &mut Arena<VExpr>, name: Word) -> Result<lx_vtree::ExprId, NoMemory>
-    ensures { IfOk result (λ i. Put out.old out.new i.place (tree.Net name)) }
-{
-    add_expr(out, VExpr::Net(name))
-}
-
-/// Adds a literal.
-pub fn put_literal(out: &mut Arena<VExpr>, literal: Literal) -> Result<lx_vtree::ExprId, NoMemory>
-    ensures { IfOk result (λ i. Put out.old out.new i.place (tree.Literal literal.bits literal.signed literal.value)) }
-{
-    add_expr(out, VExpr::Literal(literal))
-}
-
-/// Adds the text of an expression where it is read: a literal, the net of its signal, or its own net.
-pub fn put_operand(
-    alloc: Global,
-    out: &mut Arena<VExpr>,
-    sheet: &Sheet,
-    id: ExprId,
-) -> Result<lx_vtree::ExprId, NoMemory>
-    requires sheet { IsSheet sheet.now.design.now sheet.now.names.now sheet.now.shapes.now sheet.now.numbers.now }
-    requires place { id.place < length sheet.now.design.now.exprs }
-    ensures { IfOk result (λ i. Put out.old out.new i.place (operand sheet.now.design.now sheet.now.names.now id.place)) }
-{
-    match sheet.design.exprs.get(id) {
-        Expr::Const {
-            value,
-            bits,
-            signed,
-        } => put_literal(out, constant(*value, *bits, *signed)),
-        Expr::Sig(x) => put_net(out, sheet.names.at(x.0).copied(alloc)?),
-        _ => put_net(out, node_name(alloc, sheet.numbers[id.place])?),
-    }
-}
-
 /// The literal of a constant.
 fn constant(value: i128, bits: u32, signed: bool) -> Literal
     requires some { 0 < bits }
@@ -79,4 +60,185 @@ fn constant(value: i128, bits: u32, signed: bool) -> Literal
         signed,
         value: field(value, 0, bits) as u128,
     }
+}
+
+/// An expression where it is read.
+pub fn operand_of(alloc: Global, sheet: &Sheet, id: ExprId) -> Result<Operand, NoMemory>
+    requires sheet { IsSheet sheet.now.design.now sheet.now.names.now sheet.now.shapes.now sheet.now.numbers.now }
+    requires place { id.place < length sheet.now.design.now.exprs }
+    ensures { IfOk result (λ o. tree_of o ≡ operand sheet.now.design.now sheet.now.names.now id.place) }
+{
+    match sheet.design.exprs.get(id) {
+        Expr::Const {
+            value,
+            bits,
+            signed,
+        } => Ok(Operand::Literal(constant(*value, *bits, *signed))),
+        Expr::Sig(x) => Ok(Operand::Net(sheet.names.at(x.0).copied(alloc)?)),
+        _ => Ok(Operand::Net(node_name(alloc, sheet.numbers[id.place])?)),
+    }
+}
+
+/// Adds the name of a net.
+pub fn put_net(out: &mut Arena<VExpr>, name: Word) -> Result<VExprId, NoMemory>
+    ensures { IfOk result (λ i. Put out.old out.new i.place (tree.Net name)) }
+{
+    add_expr(out, VExpr::Net(name))
+}
+
+/// Adds a literal.
+pub fn put_literal(out: &mut Arena<VExpr>, literal: Literal) -> Result<VExprId, NoMemory>
+    ensures { IfOk result (λ i. Put out.old out.new i.place (tree.Literal literal.bits literal.signed literal.value)) }
+{
+    add_expr(out, VExpr::Literal(literal))
+}
+
+/// Adds the text of an expression where it is read.
+pub fn put_operand(
+    alloc: Global,
+    out: &mut Arena<VExpr>,
+    sheet: &Sheet,
+    id: ExprId,
+) -> Result<VExprId, NoMemory>
+    requires sheet { IsSheet sheet.now.design.now sheet.now.names.now sheet.now.shapes.now sheet.now.numbers.now }
+    requires place { id.place < length sheet.now.design.now.exprs }
+    ensures { IfOk result (λ i. Put out.old out.new i.place (operand sheet.now.design.now sheet.now.names.now id.place)) }
+{
+    match operand_of(alloc, sheet, id)? {
+        Operand::Literal(literal) => put_literal(out, literal),
+        Operand::Net(name) => put_net(out, name),
+    }
+}
+
+// `$signed({1'd0, e})` for an unsigned operand beside a signed one, else the operand as it stands.
+fn put_wide(
+    alloc: Global,
+    out: &mut Arena<VExpr>,
+    widen: bool,
+    of: VExprId,
+) -> Result<VExprId, NoMemory>
+    requires { of.place < length out.old }
+    ensures { IfOk result (λ i. Put out.old out.new i.place (wide_if widen (tree_at out.old of.place))) }
+{
+    if widen {
+        let zero = put_zero(out)?;
+        let more = List::of_one(alloc, of)?;
+        let both = add_expr(out, VExpr::Concat { first: zero, more })?;
+        add_expr(out, VExpr::ToSigned(both))
+    } else {
+        Ok(of)
+    }
+}
+
+// The zero bit above an operand.
+fn put_zero(out: &mut Arena<VExpr>) -> Result<VExprId, NoMemory>
+    ensures { IfOk result (λ i. Put out.old out.new i.place (tree.Literal 1 false 0)) }
+{
+    let zero = Literal {
+        bits: 1,
+        signed: false,
+        value: 0,
+    };
+    put_literal(out, zero)
+}
+
+// The Verilog operator of a form with one operand.
+fn unary_op(text: OpText) -> UnOp
+    ensures { result ≡ unary_op text }
+{
+    match text {
+        OpText::Inverted => UnOp::Invert,
+        _ => UnOp::Negate,
+    }
+}
+
+// The Verilog operator of a form with two operands.
+fn binary_op(text: OpText) -> BinOp
+    ensures { result ≡ binary_op text }
+{
+    match text {
+        OpText::Minus => BinOp::Sub,
+        OpText::Times => BinOp::Mul,
+        OpText::ShiftLeft => BinOp::ShiftLeft,
+        OpText::ShiftRight => BinOp::ShiftRight,
+        OpText::ShiftRightSigned => BinOp::ArithmeticRight,
+        OpText::BitAnd => BinOp::And,
+        OpText::BitOr => BinOp::Or,
+        OpText::BitXor => BinOp::Xor,
+        OpText::Equal => BinOp::Equal,
+        OpText::NotEqual => BinOp::NotEqual,
+        OpText::Less => BinOp::Less,
+        OpText::LessOrEqual => BinOp::LessEqual,
+        OpText::Greater => BinOp::Greater,
+        OpText::GreaterOrEqual => BinOp::GreaterEqual,
+        _ => BinOp::Add,
+    }
+}
+
+// The signs of two operands.
+fn mix(left: bool, right: bool) -> Mix
+    ensures { result ≡ mix_of left right }
+{
+    match (left, right) {
+        (false, false) => Mix::UU,
+        (false, true) => Mix::US,
+        (true, false) => Mix::SU,
+        (true, true) => Mix::SS,
+    }
+}
+
+// An operator of one operand, sized by its row.
+fn put_unary(
+    alloc: Global,
+    out: &mut Arena<VExpr>,
+    row: OpRow,
+    of: VExprId,
+) -> Result<VExprId, NoMemory>
+    requires { of.place < length out.old }
+    ensures { IfOk result (λ i. Put out.old out.new i.place (unary_text row (tree_at out.old of.place))) }
+{
+    let of = put_wide(alloc, out, row.widen_left, of)?;
+    let op = unary_op(row.text);
+    add_expr(out, VExpr::Unary { op, of })
+}
+
+// An operator of two operands, sized by its row.
+fn put_binary(
+    alloc: Global,
+    out: &mut Arena<VExpr>,
+    row: OpRow,
+    left: VExprId,
+    right: VExprId,
+) -> Result<VExprId, NoMemory>
+    requires left { left.place < length out.old }
+    requires right { right.place < length out.old }
+    ensures { IfOk result (λ i. Put out.old out.new i.place (binary_text row (tree_at out.old left.place) (tree_at out.old right.place))) }
+{
+    let wide_left = put_wide(alloc, out, row.widen_left, left)?;
+    let wide_right = put_wide(alloc, out, row.widen_right, right)?;
+    let node = VExpr::Binary {
+        left: wide_left,
+        op: binary_op(row.text),
+        right: wide_right,
+    };
+    add_expr(out, node)
+}
+
+// A choice between two operands, sized by its row.
+fn put_choice(
+    alloc: Global,
+    out: &mut Arena<VExpr>,
+    row: OpRow,
+    cond: VExprId,
+    yes: VExprId,
+    no: VExprId,
+) -> Result<VExprId, NoMemory>
+    requires cond { cond.place < length out.old }
+    requires yes { yes.place < length out.old }
+    requires no { no.place < length out.old }
+    ensures { IfOk result (λ i. Put out.old out.new i.place (choice_text row (tree_at out.old cond.place) (tree_at out.old yes.place) (tree_at out.old no.place))) }
+{
+    let so = put_wide(alloc, out, row.widen_left, yes)?;
+    let other = put_wide(alloc, out, row.widen_right, no)?;
+    add_expr(out, VExpr::Choose { cond, so, other })
 }
