@@ -2,3 +2,4 @@ pub mod Operands
 pub mod Counted
 pub mod Shaped
 pub mod Puts
+pub mod Written

@@ -1,15 +1,11 @@
 -- The texts of operands.
-use Rattle.std.proofs.Common.{◌≡◌, ℕ, zero, suc, Bool, ◌^◌, ◌<◌, ◌≤◌, true, false, List, [], ◌∷◌, length, refl, sym, ap, subst, ◌∙◌, arith}
-use Rattle.std.specs.Prelude.{ℤ, Option, Some, None, Result, Ok, Err, slice_get, slice_index_or, IfOk}
+use Rattle.std.proofs.Common.{◌≡◌, ℕ, zero, suc, Bool, ◌^◌, ◌<◌, List, [], ◌∷◌, length, refl, sym, ap, ◌∙◌, arith}
+use Rattle.std.specs.Prelude.{ℤ, Some, slice_get, slice_index_or}
 use Rattle.lx_num.specs.Ints.{modulo, shape}
-use Rattle.lx_circuit.specs.Shapes.{fault_of, constant_fault}
-use Rattle.lx_arena.specs.declared.Id.{Id}
+use Rattle.lx_circuit.specs.Shapes.{fault_of}
 use Rattle.lx_vtext.specs.Tree as tree
 use Rattle.lx_vtext.specs.Tree.{Name}
-use Rattle.lx_vtree.specs.declared.nodes.VExpr.{VExpr}
-use Rattle.lx_vtree.specs.declared.nodes.InExprs.{InExprs}
-use Rattle.lx_fhdl.specs.Designs.{term, shapes}
-use Rattle.lx_fhdl.specs.Trees.{node_term, term_at}
+use Rattle.lx_fhdl.specs.Designs.{shapes}
 use Rattle.lx_fhdl.specs.Keeping.{Keeps}
 use Rattle.lx_fhdl.specs.declared.exprs.Expr.{Expr}
 use Rattle.lx_fhdl.specs.declared.exprs.Expr.TheVariants.{Const, Sig, Unary, Binary, Mux, Cat, Pick, Replicate, Slice}
@@ -19,7 +15,7 @@ use Rattle.lx_fhdl.proofs.Arena.{constant_small}
 use Rattle.lx_fhdl.proofs.Trees.{term_at-is}
 use Rattle.lx_emission.specs.Naming.{node_name, node_net}
 use Rattle.lx_emission.specs.Nodes.{operand_of, operand}
-use Rattle.lx_emit.specs.Tables.{AreNumbers, Put}
+use Rattle.lx_emit.specs.Tables.{AreNumbers}
 
 pub place_within : {T : Type 0} (xs : List T) (k : ℕ) (x : T) → slice_get xs k ≡ Some x → k < length xs
 place_within [] k x e = absurd (cc)
@@ -35,9 +31,6 @@ constant_bits d k x value bits signed keeps h e f =
 pub operand_is : (d : Design) (names : List Name) (k : ℕ) (x : Expr) → slice_get d.exprs k ≡ Some x → operand d names k ≡ operand_of names (node_net d.exprs k) (Some x)
 unfolding operand
 operand_is d names k x e = ap (operand_of names (node_net d.exprs k)) e
-
-pub put_ok : {E : Type 0} (r : Result (Id InExprs) E) (old new : List VExpr) (t u : tree.VExpr) → t ≡ u → IfOk r (λ i. Put old new i.place t) → IfOk r (λ i. Put old new i.place u)
-put_ok r old new t u e h = subst (λ (x : tree.VExpr). IfOk r (λ i. Put old new i.place x)) e h
 
 pub constant_operand : (d : Design) (names : List Name) (k : ℕ) (x : Expr) (value : ℤ) (bits : ℕ) (signed : Bool) → slice_get d.exprs k ≡ Some x → x ≡ Const value bits signed → tree.Literal bits signed (modulo value (2 ^ bits)) ≡ operand d names k
 constant_operand d names k x value bits signed e f = sym (operand_is d names k x e ∙ ap (λ (y : Expr). operand_of names (node_net d.exprs k) (Some y)) f)

@@ -2,7 +2,7 @@
 
 ghost use Rattle.std.specs.Prelude.{◌≡◌, ◌<◌, ◌≤◌, ◌^◌, ◌/◌, ◌%◌, ◌-◌, true, false, Some, length, slice_get, IfOk, IsTrue};
 ghost use Rattle.lx_num.specs.Ints.{modulo};
-ghost use Rattle.lx_tables.specs.Operators.{mix_of};
+ghost use Rattle.lx_tables.specs.Operators.{mix_of, row_of};
 ghost use Rattle.lx_tie.specs.Rows.{unary_op, binary_op};
 ghost use Rattle.lx_vtext.specs.Tree as tree;
 ghost use Rattle.lx_vtree.specs.Below.{are_below};
@@ -12,15 +12,15 @@ ghost use Rattle.lx_fhdl.specs.Below.{all_below};
 ghost use Rattle.lx_fhdl.specs.Lowered.{is_no_pick};
 ghost use Rattle.lx_fhdl.specs.declared.exprs.Expr.{Expr};
 ghost use Rattle.lx_emission.specs.Naming.{has_net, node_name};
-ghost use Rattle.lx_emission.specs.Nodes.{operand, node_text, wide_if, unary_text, binary_text, choice_text, parts_onto, cat_text, slice_text};
+ghost use Rattle.lx_emission.specs.Nodes.{operand, node_shape, node_text, wide_if, unary_text, binary_text, choice_text, parts_onto, cat_text, slice_text};
 ghost use Rattle.lx_emit.specs.Operands.{tree_of};
-ghost use Rattle.lx_emit.specs.Tables.{IsSheet, Put, PutParts};
+ghost use Rattle.lx_emit.specs.Tables.{IsSheet, Put, PutParts, text_of};
 
 use crate::tables::Sheet;
 use lx_arena::Arena;
 use lx_fhdl::{Expr, ExprId};
-use lx_num::field;
-use lx_tables::{Mix, OpRow, OpText, op_row};
+use lx_num::{Shape, field};
+use lx_tables::{Mix, Op, OpRow, OpText, op_row};
 use lx_text::{List, NoMemory, Text, Word};
 use lx_vtext::{BinOp, UnOp};
 use lx_vtree::{ExprId as VExprId, Literal, VExpr, add_expr};
@@ -34,11 +34,7 @@ pub enum Operand {
 }
 
 /// The name of the net of number `n` among those of operators and slices.
-#[tactic(
-    auto,
-    using(lx_vtext::proofs::Numbers::number_decimal),
-    unfolding(lx_emission::specs::Naming::node_name)
-)]
+#[tactic(auto, using(lx_vtext::proofs::Numbers::number_decimal), unfolding(lx_emission::specs::Naming::node_name))]
 pub fn node_name(alloc: Global, n: usize) -> Result<Word, NoMemory>
     ensures { IfOk result (λ word. word ≡ node_name n) }
 {
@@ -64,7 +60,7 @@ fn constant(value: i128, bits: u32, signed: bool) -> Literal
 
 /// An expression where it is read.
 pub fn operand_of(alloc: Global, sheet: &Sheet, id: ExprId) -> Result<Operand, NoMemory>
-    requires sheet { IsSheet sheet.now.design.now sheet.now.names.now sheet.now.shapes.now sheet.now.numbers.now }
+    requires sheet { IsSheet sheet.now }
     requires place { id.place < length sheet.now.design.now.exprs }
     ensures { IfOk result (λ o. tree_of o ≡ operand sheet.now.design.now sheet.now.names.now id.place) }
 {
@@ -100,7 +96,7 @@ pub fn put_operand(
     sheet: &Sheet,
     id: ExprId,
 ) -> Result<VExprId, NoMemory>
-    requires sheet { IsSheet sheet.now.design.now sheet.now.names.now sheet.now.shapes.now sheet.now.numbers.now }
+    requires sheet { IsSheet sheet.now }
     requires place { id.place < length sheet.now.design.now.exprs }
     ensures { IfOk result (λ i. Put out.old out.new i.place (operand sheet.now.design.now sheet.now.names.now id.place)) }
 {
@@ -241,4 +237,236 @@ fn put_choice(
     let so = put_wide(alloc, out, row.widen_left, yes)?;
     let other = put_wide(alloc, out, row.widen_right, no)?;
     add_expr(out, VExpr::Choose { cond, so, other })
+}
+
+// Adds the texts of parts, the last one first.
+fn put_parts(
+    alloc: Global,
+    out: &mut Arena<VExpr>,
+    sheet: &Sheet,
+    parts: &[ExprId],
+) -> Result<List<VExprId>, NoMemory>
+    requires sheet { IsSheet sheet.now }
+    requires places { IsTrue (all_below (length sheet.now.design.now.exprs) parts.now) }
+    ensures { IfOk result (λ ids. PutParts out.old out.new ids (parts_onto (operand sheet.now.design.now sheet.now.names.now) parts.now tree.NoMore)) }
+{
+    let mut texts = List::new(alloc);
+    for place in (0..parts.len()).rev() {
+        let text = put_operand(alloc, out, sheet, parts[place])?;
+        texts.push(text)?;
+    }
+    Ok(texts)
+}
+
+// Parts side by side: the first stands last, in the lowest bits.
+fn put_cat(
+    alloc: Global,
+    out: &mut Arena<VExpr>,
+    sheet: &Sheet,
+    parts: &[ExprId],
+) -> Result<VExprId, NoMemory>
+    requires sheet { IsSheet sheet.now }
+    requires places { IsTrue (all_below (length sheet.now.design.now.exprs) parts.now) }
+    requires some { 0 < length parts.now }
+    ensures { IfOk result (λ i. Put out.old out.new i.place (cat_text (operand sheet.now.design.now sheet.now.names.now) parts.now)) }
+{
+    let last = parts.len() - 1;
+    let first = put_operand(alloc, out, sheet, parts[last])?;
+    let more = put_parts(alloc, out, sheet, &parts[..last])?;
+    add_expr(out, VExpr::Concat { first, more })
+}
+
+// Bits `low` to `high - 1` of a net of so many bits; a select never covers its name.
+fn put_select(
+    out: &mut Arena<VExpr>,
+    name: Word,
+    bits: u8,
+    low: u32,
+    high: u32,
+) -> Result<VExprId, NoMemory>
+    requires { low < high }
+    ensures { IfOk result (λ i. Put out.old out.new i.place (slice_text (tree.Net name) bits low high)) }
+{
+    if low == 0 && high == bits as u32 {
+        let net = put_net(out, name)?;
+        return add_expr(out, VExpr::ToUnsigned(net));
+    }
+    let node = VExpr::Select {
+        name,
+        hi: (high - 1) as u64,
+        lo: low as u64,
+    };
+    add_expr(out, node)
+}
+
+// Bits `low` to `high - 1` of a literal.
+fn field_of(literal: Literal, low: u32, high: u32) -> Literal
+    requires some { low < high }
+    requires most { high < 128 }
+    ensures { tree.Literal result.bits result.signed result.value ≡ tree.Literal (high - low) false (literal.value / 2 ^ low % 2 ^ (high - low)) }
+{
+    let bits = high - low;
+    Literal {
+        bits: bits as u8,
+        signed: false,
+        value: (literal.value >> low) % (1 << bits),
+    }
+}
+
+// Bits `low` to `high - 1` of an operand of so many bits.
+fn put_slice(
+    out: &mut Arena<VExpr>,
+    of: Operand,
+    bits: u8,
+    low: u32,
+    high: u32,
+) -> Result<VExprId, NoMemory>
+    requires some { low < high }
+    requires most { high < 128 }
+    ensures { IfOk result (λ i. Put out.old out.new i.place (slice_text (tree_of of) bits low high)) }
+{
+    match of {
+        Operand::Literal(literal) => put_literal(out, field_of(literal, low, high)),
+        Operand::Net(name) => put_select(out, name, bits, low, high),
+    }
+}
+
+// The shape of an expression.
+fn shape_at(sheet: &Sheet, id: ExprId) -> Shape
+    requires sheet { IsSheet sheet.now }
+    requires place { id.place < length sheet.now.design.now.exprs }
+    ensures { result ≡ node_shape sheet.now.design.now id.place }
+{
+    sheet.shapes[id.place]
+}
+
+// How an operator of these two operands is written.
+fn row_at(sheet: &Sheet, op: Op, left: ExprId, right: ExprId) -> OpRow
+    requires sheet { IsSheet sheet.now }
+    requires left { left.place < length sheet.now.design.now.exprs }
+    requires right { right.place < length sheet.now.design.now.exprs }
+    ensures { result ≡ row_of op (mix_of (node_shape sheet.now.design.now left.place).signed (node_shape sheet.now.design.now right.place).signed) }
+{
+    let mix = mix(shape_at(sheet, left).signed, shape_at(sheet, right).signed);
+    op_row(op, mix)
+}
+
+// An operator of one operand.
+fn put_unary_of(
+    alloc: Global,
+    out: &mut Arena<VExpr>,
+    sheet: &Sheet,
+    op: Op,
+    of: ExprId,
+) -> Result<VExprId, NoMemory>
+    requires sheet { IsSheet sheet.now }
+    requires place { of.place < length sheet.now.design.now.exprs }
+    ensures { IfOk result (λ i. Put out.old out.new i.place (text_of sheet.now (Expr.Unary op of))) }
+{
+    let row = row_at(sheet, op, of, of);
+    let of = put_operand(alloc, out, sheet, of)?;
+    put_unary(alloc, out, row, of)
+}
+
+// An operator of two operands.
+fn put_binary_of(
+    alloc: Global,
+    out: &mut Arena<VExpr>,
+    sheet: &Sheet,
+    op: Op,
+    left: ExprId,
+    right: ExprId,
+) -> Result<VExprId, NoMemory>
+    requires sheet { IsSheet sheet.now }
+    requires left { left.place < length sheet.now.design.now.exprs }
+    requires right { right.place < length sheet.now.design.now.exprs }
+    ensures { IfOk result (λ i. Put out.old out.new i.place (text_of sheet.now (Expr.Binary op left right))) }
+{
+    let row = row_at(sheet, op, left, right);
+    let a = put_operand(alloc, out, sheet, left)?;
+    let b = put_operand(alloc, out, sheet, right)?;
+    put_binary(alloc, out, row, a, b)
+}
+
+// A choice between two operands.
+fn put_choice_of(
+    alloc: Global,
+    out: &mut Arena<VExpr>,
+    sheet: &Sheet,
+    cond: ExprId,
+    yes: ExprId,
+    no: ExprId,
+) -> Result<VExprId, NoMemory>
+    requires sheet { IsSheet sheet.now }
+    requires cond { cond.place < length sheet.now.design.now.exprs }
+    requires yes { yes.place < length sheet.now.design.now.exprs }
+    requires no { no.place < length sheet.now.design.now.exprs }
+    ensures { IfOk result (λ i. Put out.old out.new i.place (text_of sheet.now (Expr.Mux cond yes no))) }
+{
+    let row = row_at(sheet, Op::Mux, yes, no);
+    let c = put_operand(alloc, out, sheet, cond)?;
+    let a = put_operand(alloc, out, sheet, yes)?;
+    let b = put_operand(alloc, out, sheet, no)?;
+    put_choice(alloc, out, row, c, a, b)
+}
+
+// Copies of an operand side by side.
+fn put_copies_of(
+    alloc: Global,
+    out: &mut Arena<VExpr>,
+    sheet: &Sheet,
+    of: ExprId,
+    count: u32,
+) -> Result<VExprId, NoMemory>
+    requires sheet { IsSheet sheet.now }
+    requires place { of.place < length sheet.now.design.now.exprs }
+    ensures { IfOk result (λ i. Put out.old out.new i.place (text_of sheet.now (Expr.Replicate of count))) }
+{
+    let count = count as u64;
+    let of = put_operand(alloc, out, sheet, of)?;
+    add_expr(out, VExpr::Repeat { count, of })
+}
+
+// Bits `low` to `high - 1` of an operand.
+fn put_slice_of(
+    alloc: Global,
+    out: &mut Arena<VExpr>,
+    sheet: &Sheet,
+    of: ExprId,
+    low: u32,
+    high: u32,
+) -> Result<VExprId, NoMemory>
+    requires sheet { IsSheet sheet.now }
+    requires place { of.place < length sheet.now.design.now.exprs }
+    requires some { low < high }
+    requires most { high < 128 }
+    ensures { IfOk result (λ i. Put out.old out.new i.place (text_of sheet.now (Expr.Slice of low high))) }
+{
+    let bits = shape_at(sheet, of).bits;
+    let of = operand_of(alloc, sheet, of)?;
+    put_slice(out, of, bits, low, high)
+}
+
+/// Adds the text of an operator or slice, which drives its net: its operands sized by the operator's row.
+pub fn put_node(
+    alloc: Global,
+    out: &mut Arena<VExpr>,
+    sheet: &Sheet,
+    id: ExprId,
+) -> Result<VExprId, NoMemory>
+    requires sheet { IsSheet sheet.now }
+    requires place { id.place < length sheet.now.design.now.exprs }
+    requires operator { (x : Expr) → slice_get sheet.now.design.now.exprs id.place ≡ Some x → has_net x ≡ true }
+    requires no_pick { (x : Expr) → slice_get sheet.now.design.now.exprs id.place ≡ Some x → is_no_pick x ≡ true }
+    ensures { IfOk result (λ i. Put out.old out.new i.place (node_text sheet.now.design.now sheet.now.names.now id.place)) }
+{
+    match sheet.design.exprs.get(id) {
+        Expr::Unary { op, of } => put_unary_of(alloc, out, sheet, *op, *of),
+        Expr::Binary { op, left, right } => put_binary_of(alloc, out, sheet, *op, *left, *right),
+        Expr::Mux { cond, yes, no } => put_choice_of(alloc, out, sheet, *cond, *yes, *no),
+        Expr::Cat(parts) => put_cat(alloc, out, sheet, parts.as_slice()),
+        Expr::Replicate { of, count } => put_copies_of(alloc, out, sheet, *of, *count),
+        Expr::Slice { of, low, high } => put_slice_of(alloc, out, sheet, *of, *low, *high),
+        Expr::Const { .. } | Expr::Sig(_) | Expr::Pick { .. } => unreachable!(),
+    }
 }

@@ -1,4 +1,4 @@
-use Rattle.std.proofs.Common.{◌∙◌, ap, arith}
+use Rattle.std.proofs.Common.{arith}
 use Rattle.lx_emit.proofs.Counted.{item_there}
 use Rattle.lx_emit.proofs.Shaped.{shapes_none, next_sound, shapes_more}
 use Rattle.lx_emit.proofs.tables.shapes.Goals as goal
