@@ -1,0 +1,5 @@
+pub mod Operands
+pub mod Counted
+pub mod Shaped
+pub mod Puts
+pub mod Written
