@@ -1,4 +1,5 @@
 //! The Verilog module of a lowered design, in arenas.
 #![tactic(auto)]
 
+pub mod drives;
 pub mod tables;
