@@ -1,3 +1,4 @@
 pub mod Inside
+pub mod Owners
 pub mod Plain
 pub mod Trees
