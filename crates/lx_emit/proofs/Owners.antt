@@ -1,23 +1,25 @@
 -- Statements with their signals, and what drives a signal.
-use Rattle.std.proofs.Common.{◌≡◌, ℕ, zero, suc, ◌+◌, ◌<◌, Bool, true, false, ◌&&◌, ◌||◌, cond, List, [], ◌∷◌, ◌++◌, Option, Some, None, length, get_or, map, take, add-one, refl, sym, ◌∙◌, ap, subst, nat_eq, nat_lt, arith}
-use Rattle.std.specs.Prelude.{slice_get, slice_index_or, option_map}
+use Rattle.std.proofs.Common.{◌≡◌, ℕ, zero, suc, ◌+◌, ◌<◌, ◌≤◌, Bool, true, false, ◌&&◌, ◌||◌, cond, List, [], ◌∷◌, ◌++◌, Option, Some, None, length, get_or, map, take, add-one, refl, sym, ◌∙◌, ap, subst, nat_eq, nat_lt, arith}
+use Rattle.std.specs.Prelude.{slice_get, slice_index_or, option_map, IsTrue}
 use Rattle.std.proofs.lemmas.Bool.{ltb-true, and_parts, eq-eqb}
 use Rattle.lx_circuit.specs.Statements.{drives, drives_block}
 use Rattle.lx_circuit.specs.Circuit as circuit
-use Rattle.lx_circuit.specs.Circuit.{Role, Input, Comb, Sync, Undriven, nothing, sync_role, idle_role, is_reset_name}
+use Rattle.lx_circuit.specs.Circuit.{Role, Input, Comb, Sync, Undriven, nothing, role, sync_role, idle_role, is_reset_name}
 use Rattle.lx_fhdl.specs.Below.{ExprId, StmtId, all_stmts_below}
 use Rattle.lx_fhdl.specs.Designs.{stmt, block, stmts_of, signal_number, made_of, domains_from, circuit_of, shapes}
-use Rattle.lx_fhdl.specs.Keeping.{EachOf, PartStands}
+use Rattle.lx_fhdl.specs.Keeping.{EachOf, PartStands, Keeps}
 use Rattle.lx_fhdl.specs.Lowered.{IsPlain, ArePlain, is_for}
 use Rattle.lx_fhdl.specs.declared.exprs.SigId.{SigId}
+use Rattle.lx_fhdl.specs.declared.stmts.Stmt.{Stmt}
+use Rattle.lx_fhdl.specs.declared.stmts.Stmt.TheVariants as statement
 use Rattle.lx_fhdl.specs.declared.design.Signal.{Signal}
 use Rattle.lx_fhdl.specs.declared.design.SyncPart.{SyncPart}
 use Rattle.lx_fhdl.specs.declared.design.Domain.{Domain}
 use Rattle.lx_fhdl.specs.declared.design.Design.{Design}
 use Rattle.lx_emission.specs.Emission.{is_port}
-use Rattle.lx_emission.specs.Signals.{Given, Held, Clocked, own, single, combined, drive_by, drive}
+use Rattle.lx_emission.specs.Signals.{Given, Held, Clocked, own, is_whole, whole_value, single, combined, drive_by, drive}
 use Rattle.lx_emission.specs.Texts.{covers}
-use Rattle.lx_emit.specs.Drives.{AreDrivers, AreDomainDrivers, is_driven, picked, first_domain, some_reset}
+use Rattle.lx_emit.specs.Drives.{AreDrivers, AreDomainDrivers, is_driven, picked, first_domain, some_reset, IsThere}
 use Rattle.lx_emit.specs.declared.drives.Driver.{Driver}
 use Rattle.lx_emit.proofs.Plain.{for_drives}
 
@@ -235,3 +237,54 @@ given_is d x ps pss h e g f p = sym (drive_idle d x ps pss h e g f ∙ ap (λ b.
 
 pub held_is : (d : Design) (x : ℕ) (ps : List Driver) (pss : List (List Driver)) → AreDrivers d d.comb ps → is_driven x ps ≡ false → AreDomainDrivers d 0 d.domains pss → first_domain x 0 pss ≡ None → is_port d x ≡ false → Held ≡ drive d x
 held_is d x ps pss h e g f p = sym (drive_idle d x ps pss h e g f ∙ ap (λ b. drive_by d x (cond b Input Undriven)) p)
+
+-- ---- what a drive names is there
+
+-- a domain that drives is one of the design
+abbrev IsRole : ℕ → Role → Type 0
+IsRole n Input = Unit {0}
+IsRole n Comb = Unit {0}
+IsRole n (Sync k) = k < n
+IsRole n Undriven = Unit {0}
+
+either_is : (b : Bool) (n : ℕ) (r q : Role) → IsRole n r → IsRole n q → IsRole n (cond b r q)
+either_is true n r q h g = h
+either_is false n r q h g = g
+
+sync_there : (d : Design) (x n k : ℕ) (xs : List Domain) (other : Role) → k + length xs ≤ n → IsRole n other → IsRole n (sync_role x k (domains_from d k xs) other)
+sync_there d x n k [] other l h = h
+sync_there d x n k (a ∷ as_) other l h =
+    let within : k < n = omega arith in
+    either_is (drives_block x (block d (stmts_of k d.sync))) n (Sync k) (sync_role x (k + 1) (domains_from d (k + 1) as_) other) within (sync_there d x n (k + 1) as_ other (omega arith) h)
+
+role_there : (d : Design) (x : ℕ) → IsRole (length d.domains) (role (circuit_of d) x)
+unfolding circuit_of
+role_there d x =
+    either_is (drives_block x (block d d.comb)) (length d.domains) Comb (sync_role x 0 (domains_from d 0 d.domains) (idle_role (circuit_of d) x)) tt
+    (sync_there d x (length d.domains) 0 d.domains (idle_role (circuit_of d) x) (omega arith)
+    (either_is (circuit.is_among x (circuit_of d).ios || circuit.is_some_reset x (circuit_of d).domains) (length d.domains) Input Undriven tt tt))
+
+whole_there : (b : Bool) (d : Design) (value : ExprId) (ids : List StmtId) → IsTrue (all_stmts_below (length d.stmts) ids) → value.place < length d.exprs → IsThere d (combined ids (cond b (Some value) None))
+whole_there true d value ids h l = l
+whole_there false d value ids h l = h
+
+value_there : (d : Design) (k : ℕ) (o : Option Stmt) (ids : List StmtId) → Keeps d → slice_get d.stmts k ≡ o → IsTrue (all_stmts_below (length d.stmts) ids) → IsThere d (combined ids (whole_value d o))
+value_there d k None ids keeps e h = h
+value_there d k (Some (statement.Assign target value line)) ids keeps e h = whole_there (is_whole d (slice_get d.targets target.place)) d value ids h (keeps.stmts k (statement.Assign target value line) e).1
+value_there d k (Some (statement.If branches rest line)) ids keeps e h = h
+value_there d k (Some (statement.Case on arms rest line)) ids keeps e h = h
+
+single_there : (d : Design) (ids : List StmtId) → Keeps d → IsTrue (all_stmts_below (length d.stmts) ids) → IsThere d (combined ids (single d ids))
+single_there d [] keeps h = h
+single_there d (i ∷ []) keeps h = value_there d i.place (slice_get d.stmts i.place) (i ∷ []) keeps refl h
+single_there d (i ∷ (j ∷ is)) keeps h = h
+
+by_role_there : (d : Design) (x : ℕ) (r : Role) → Keeps d → IsRole (length d.domains) r → IsThere d (drive_by d x r)
+by_role_there d x Input keeps h = tt
+by_role_there d x Undriven keeps h = tt
+by_role_there d x Comb keeps h = single_there d (own d x d.comb) keeps (own_below d x (length d.stmts) d.comb keeps.comb.there)
+by_role_there d x (Sync k) keeps h = (h, own_below d x (length d.stmts) (stmts_of k d.sync) (domain_there d k d.sync keeps.sync))
+
+pub drive_there : (d : Design) (x : ℕ) → Keeps d → IsThere d (drive d x)
+unfolding drive
+drive_there d x keeps = by_role_there d x (role (circuit_of d) x) keeps (role_there d x)

@@ -1,8 +1,8 @@
 -- What drives the net of each signal, as the code has it.
-use Rattle.std.specs.Prelude.{◌≡◌, ℕ, Bool, false, ◌+◌, ◌||◌, List, [], ◌∷◌, Option, Some, None, nat_eq, option_map, if◌then◌else◌, IsTrue}
+use Rattle.std.specs.Prelude.{◌≡◌, ℕ, Bool, false, ◌+◌, ◌<◌, ◌||◌, List, [], ◌∷◌, Option, Some, None, length, nat_eq, option_map, if◌then◌else◌, IsTrue}
 use Rattle.lx_circuit.specs.Statements as tree
 use Rattle.lx_circuit.specs.Circuit.{is_reset_name}
-use Rattle.lx_fhdl.specs.Below.{StmtId}
+use Rattle.lx_fhdl.specs.Below.{StmtId, all_stmts_below}
 use Rattle.lx_fhdl.specs.Designs.{stmt, stmts_of, signal_number}
 use Rattle.lx_fhdl.specs.Lowered.{is_plain_target, is_for}
 use Rattle.lx_fhdl.specs.declared.stmts.Branch.{Branch}
@@ -82,3 +82,11 @@ drive_of Held = signals.Held
 drive_of (Equal value) = signals.Equal value
 drive_of (Combined body) = signals.Combined body
 drive_of (Clocked domain body) = signals.Clocked domain body
+
+-- the expression, the statements and the domain of a drive are there
+abbrev pub IsThere : Design → signals.Drive → Type 0
+IsThere d signals.Given = Unit {0}
+IsThere d signals.Held = Unit {0}
+IsThere d (signals.Equal value) = value.place < length d.exprs
+IsThere d (signals.Combined body) = IsTrue (all_stmts_below (length d.stmts) body)
+IsThere d (signals.Clocked domain body) = (domain < length d.domains) × IsTrue (all_stmts_below (length d.stmts) body)

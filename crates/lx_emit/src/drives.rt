@@ -9,7 +9,7 @@ ghost use Rattle.lx_fhdl.specs.Keeping.{Keeps};
 ghost use Rattle.lx_fhdl.specs.Lowered.{ArePlain, IsLowered, IsPlain, is_for, is_plain_target};
 ghost use Rattle.lx_emission.specs.Emission.{is_port};
 ghost use Rattle.lx_emission.specs.Signals.{combined, drive, is_whole, own, single, whole_value};
-ghost use Rattle.lx_emit.specs.Drives.{AreDomainDrivers, AreDrivers, AreDriversOf, IsPlainTarget, drive_of, first_domain, first_inside, is_driven, picked, some_reset};
+ghost use Rattle.lx_emit.specs.Drives.{AreDomainDrivers, AreDrivers, AreDriversOf, IsPlainTarget, IsThere, drive_of, first_domain, first_inside, is_driven, picked, some_reset};
 
 use lx_fhdl::{Branch, Design, Domain, ExprId, SigId, Stmt, StmtId, Target, TargetId};
 use lx_text::{List, NoMemory};
@@ -278,7 +278,8 @@ impl Drivers {
     pub fn drive(&self, alloc: Global, design: &Design, x: SigId) -> Result<Drive, NoMemory>
         requires keeps { Keeps design.now }
         requires drivers { AreDriversOf design.now self.now }
-        ensures { IfOk result (λ r. drive_of r ≡ drive design.now x.0) }
+        ensures drive { IfOk result (λ r. drive_of r ≡ drive design.now x.0) }
+        ensures there { IfOk result (λ r. IsThere design.now (drive_of r)) }
     {
         if is_driven(self.comb.as_slice(), x) {
             return combined(alloc, design, self.comb.as_slice(), x);
