@@ -3,3 +3,7 @@ pub mod Counted
 pub mod Shaped
 pub mod Puts
 pub mod Written
+pub mod Inside
+pub mod Owners
+pub mod Plain
+pub mod Trees

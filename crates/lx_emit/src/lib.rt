@@ -2,4 +2,5 @@
 #![tactic(auto)]
 
 pub mod exprs;
+pub mod drives;
 pub mod tables;
