@@ -4,7 +4,7 @@ use Rattle.std.specs.Prelude.{slice_get, IsSome}
 use Rattle.std.proofs.lemmas.Bool.{ltb-true, and_parts, eq-eqb, true≢false}
 use Rattle.lx_circuit.specs.Terms.{Term}
 use Rattle.lx_circuit.specs.Statements as tree
-use Rattle.lx_fhdl.specs.Below.{ExprId, TargetId, StmtId, all_stmts_below, all_branches_below}
+use Rattle.lx_fhdl.specs.Below.{ExprId, TargetId, StmtId, all_stmts_below, all_branches_below, stmt_below}
 use Rattle.lx_fhdl.specs.Trees.{term_at}
 use Rattle.lx_fhdl.specs.Stmts.{node_target, target_of, target_within, target_at, node_stmt, block_at, branches_at}
 use Rattle.lx_fhdl.specs.Designs.{target, stmt}
@@ -20,7 +20,7 @@ use Rattle.lx_fhdl.specs.declared.stmts.Stmt.TheVariants as statement
 use Rattle.lx_fhdl.specs.declared.design.Design.{Design}
 use Rattle.lx_emit.specs.Drives.{IsPlainTarget, first_of, first_inside}
 use Rattle.lx_emit.proofs.Plain.{for_same}
-use Rattle.lx_emit.proofs.Trees.{stmt_at-is, lower_at}
+use Rattle.lx_fhdl.proofs.StmtTrees.{stmt_at-is, lower_at}
 
 -- ---- targets
 
@@ -115,7 +115,7 @@ pub if_there : (d : Design) (k : ℕ) (bs : List Branch) (rest : List StmtId) (l
 if_there d k bs rest line keeps e p = first_there p.signal (term_at d.exprs) (stmt d) bs rest (sym (if_for d k p.signal bs rest line keeps e) ∙ p.alone)
 
 pub if_below : (d : Design) (k : ℕ) (bs : List Branch) (rest : List StmtId) (line : ℕ) (i : StmtId) → Keeps d → slice_get d.stmts k ≡ Some (statement.If bs rest line) → first_inside bs rest ≡ Some i → i.place < k
-if_below d k bs rest line i keeps e f = first_below k bs rest i f (lower_at d.stmts keeps.stmts_lower k (statement.If bs rest line) e)
+if_below d k bs rest line i keeps e f = first_below k bs rest i f (lower_at stmt_below d.stmts keeps.stmts_lower k (statement.If bs rest line) e)
 
 pub if_plain : (d : Design) (k : ℕ) (bs : List Branch) (rest : List StmtId) (line : ℕ) (i : StmtId) → Keeps d → slice_get d.stmts k ≡ Some (statement.If bs rest line) → first_inside bs rest ≡ Some i → IsPlain (stmt d k) → IsPlain (stmt d i.place)
 if_plain d k bs rest line i keeps e f p = record { signal = p.signal; alone = first_for p.signal (term_at d.exprs) (stmt d) bs rest i f (sym (if_for d k p.signal bs rest line keeps e) ∙ p.alone) }

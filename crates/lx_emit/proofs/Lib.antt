@@ -1,9 +1,8 @@
-pub mod Operands
 pub mod Counted
-pub mod Shaped
-pub mod Puts
-pub mod Written
 pub mod Inside
+pub mod Operands
 pub mod Owners
 pub mod Plain
-pub mod Trees
+pub mod Puts
+pub mod Shaped
+pub mod Written

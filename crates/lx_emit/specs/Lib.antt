@@ -1,3 +1,3 @@
-pub mod Operands
 pub mod Drives
+pub mod Operands
 pub mod Tables

@@ -1,6 +1,6 @@
 //! The Verilog module of a lowered design, in arenas.
 #![tactic(auto)]
 
-pub mod exprs;
 pub mod drives;
+pub mod exprs;
 pub mod tables;
