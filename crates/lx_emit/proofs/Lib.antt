@@ -1,4 +1,5 @@
 pub mod Counted
+pub mod Driven
 pub mod Inside
 pub mod Operands
 pub mod Owners

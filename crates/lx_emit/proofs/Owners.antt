@@ -137,14 +137,17 @@ own_below d x n (i ∷ is) h =
 
 -- ---- the signals of a design
 
-shape_in : (xs : List Signal) (k : ℕ) (s : Signal) → slice_get xs k ≡ Some s → slice_index_or (map made_of xs) k nothing ≡ made_of s
-shape_in [] k s e = absurd (cc)
-shape_in (x ∷ xs) zero s e = let same : x ≡ s = cc in ap made_of same
-shape_in (x ∷ xs) (suc k) s e = shape_in xs k s e
+made_in : (xs : List Signal) (k : ℕ) (s : Signal) → slice_get xs k ≡ Some s → slice_index_or (map made_of xs) k nothing ≡ made_of s
+made_in [] k s e = absurd (cc)
+made_in (x ∷ xs) zero s e = let same : x ≡ s = cc in ap made_of same
+made_in (x ∷ xs) (suc k) s e = made_in xs k s e
+
+pub made_is : (d : Design) (k : ℕ) (s : Signal) → slice_get d.signals k ≡ Some s → circuit.made (circuit_of d) k ≡ made_of s
+unfolding circuit_of
+made_is d k s e = made_in d.signals k s e
 
 pub shape_is : (d : Design) (k : ℕ) (s : Signal) → slice_get d.signals k ≡ Some s → shapes d k ≡ s.shape
-unfolding circuit_of
-shape_is d k s e = ap (λ (m : circuit.Made). m.shape) (shape_in d.signals k s e)
+shape_is d k s e = ap (λ (m : circuit.Made). m.shape) (made_is d k s e)
 
 reset_is : (d : Design) (x k : ℕ) (xs : List Domain) → circuit.is_some_reset x (domains_from d k xs) ≡ some_reset x xs
 reset_is d x k [] = refl

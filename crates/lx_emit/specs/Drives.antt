@@ -1,5 +1,5 @@
 -- What drives the net of each signal, as the code has it.
-use Rattle.std.specs.Prelude.{◌≡◌, ℕ, Bool, false, ◌+◌, ◌<◌, ◌||◌, List, [], ◌∷◌, Option, Some, None, length, nat_eq, option_map, if◌then◌else◌, IsTrue}
+use Rattle.std.specs.Prelude.{◌≡◌, ℕ, Bool, false, ◌+◌, ◌<◌, ◌||◌, List, [], ◌∷◌, Option, Some, None, length, nat_eq, option_map, slice_get, if◌then◌else◌, IsTrue}
 use Rattle.lx_circuit.specs.Statements as tree
 use Rattle.lx_circuit.specs.Circuit.{is_reset_name}
 use Rattle.lx_fhdl.specs.Below.{StmtId, all_stmts_below}
@@ -90,3 +90,8 @@ IsThere d signals.Held = Unit {0}
 IsThere d (signals.Equal value) = value.place < length d.exprs
 IsThere d (signals.Combined body) = IsTrue (all_stmts_below (length d.stmts) body)
 IsThere d (signals.Clocked domain body) = (domain < length d.domains) × IsTrue (all_stmts_below (length d.stmts) body)
+
+-- how the net of each signal is driven
+pub record AreDrives (d : Design) (drives : List Drive) : Type 0 where
+  pub long : length drives ≡ length d.signals
+  pub each : (k : ℕ) (r : Drive) → slice_get drives k ≡ Some r → drive_of r ≡ signals.drive d k

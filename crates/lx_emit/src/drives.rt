@@ -9,7 +9,7 @@ ghost use Rattle.lx_fhdl.specs.Keeping.{Keeps};
 ghost use Rattle.lx_fhdl.specs.Lowered.{ArePlain, IsLowered, IsPlain, is_for, is_plain_target};
 ghost use Rattle.lx_emission.specs.Emission.{is_port};
 ghost use Rattle.lx_emission.specs.Signals.{combined, drive, is_whole, own, single, whole_value};
-ghost use Rattle.lx_emit.specs.Drives.{AreDomainDrivers, AreDrivers, AreDriversOf, IsPlainTarget, IsThere, drive_of, first_domain, first_inside, is_driven, picked, some_reset};
+ghost use Rattle.lx_emit.specs.Drives.{AreDomainDrivers, AreDrivers, AreDriversOf, AreDrives, IsPlainTarget, IsThere, drive_of, first_domain, first_inside, is_driven, picked, some_reset};
 
 use lx_fhdl::{Branch, Design, Domain, ExprId, SigId, Stmt, StmtId, Target, TargetId};
 use lx_text::{List, NoMemory};
@@ -294,4 +294,19 @@ impl Drivers {
             Ok(Drive::Held)
         }
     }
+}
+
+/// How the net of each signal is driven.
+pub fn drives(alloc: Global, design: &Design) -> Result<List<Drive>, NoMemory>
+    requires keeps { Keeps design.now }
+    requires lowered { IsLowered design.now }
+    ensures { IfOk result (λ drives. AreDrives design.now drives) }
+{
+    let drivers = Drivers::new(alloc, design)?;
+    let mut drives = List::new(alloc);
+    for x in 0..design.signals.len() {
+        let drive = drivers.drive(alloc, design, SigId(x))?;
+        drives.push(drive)?;
+    }
+    Ok(drives)
 }

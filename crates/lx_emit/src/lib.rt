@@ -3,4 +3,5 @@
 
 pub mod drives;
 pub mod exprs;
+pub mod nets;
 pub mod tables;

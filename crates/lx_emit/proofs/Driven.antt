@@ -1,0 +1,53 @@
+-- The nets of signals.
+use Rattle.std.proofs.Common.{◌≡◌, ℕ, zero, suc, ◌+◌, List, [], ◌∷◌, ◌++◌, length, refl, sym, ap, ◌∙◌, arith, length-append}
+use Rattle.std.specs.Prelude.{Option, Some, slice_get}
+use Rattle.lx_num.specs.declared.Shape.{Shape}
+use Rattle.lx_circuit.specs.Circuit as circuit
+use Rattle.lx_vtext.specs.Tree.{Name, VLiteral, VNet}
+use Rattle.lx_fhdl.specs.declared.design.Signal.{Signal}
+use Rattle.lx_fhdl.specs.declared.design.Design.{Design}
+use Rattle.lx_emission.specs.Naming.{net}
+use Rattle.lx_emission.specs.Signals as signals
+use Rattle.lx_emission.specs.Signals.{literal_of, shape_of_signal, reset_of_signal, init_of, drive, signal_net}
+use Rattle.lx_emit.specs.declared.drives.Drive.{Drive}
+use Rattle.lx_emit.specs.Drives.{AreDrives, drive_of}
+use Rattle.lx_emit.proofs.Owners.{made_is}
+
+pub reset_is : (d : Design) (k : ℕ) (s : Signal) → slice_get d.signals k ≡ Some s → literal_of s.shape s.reset ≡ literal_of (shape_of_signal d k) (reset_of_signal d k)
+reset_is d k s e = sym (ap (λ (m : circuit.Made). literal_of m.shape m.reset) (made_is d k s e))
+
+abbrev net_by : Shape → Name → Option VLiteral → VNet
+net_by s n i = record { signed = s.signed; bits = s.bits; name = n; init = i }
+
+pub net_is : (d : Design) (names : List Name) (k : ℕ) (s : Signal) (n : Name) (i : Option VLiteral) (r : signals.Drive) → slice_get d.signals k ≡ Some s → n ≡ net names k → i ≡ init_of (shape_of_signal d k) (reset_of_signal d k) r → r ≡ drive d k
+    → net_by s.shape n i ≡ signal_net d names k
+unfolding signal_net
+net_is d names k s n i r e f g h =
+    ap (λ (m : circuit.Made). net_by m.shape n i) (sym (made_is d k s e))
+    ∙ ap (λ (m : Name). net_by (shape_of_signal d k) m i) f
+    ∙ ap (net_by (shape_of_signal d k) (net names k)) (g ∙ ap (init_of (shape_of_signal d k) (reset_of_signal d k)) h)
+
+-- ---- how the nets of the first n signals are driven
+
+pub record DrivesTo (d : Design) (n : ℕ) (rs : List Drive) : Type 0 where
+  pub long : length rs ≡ n
+  pub each : (k : ℕ) (r : Drive) → slice_get rs k ≡ Some r → drive_of r ≡ drive d k
+
+pub drives_none : (d : Design) → DrivesTo d 0 []
+drives_none d = record { long = refl; each = λ k r e. absurd (cc) }
+
+next_drive : (f : ℕ → signals.Drive) (rs : List Drive) (r : Drive) (n : ℕ) → length rs ≡ n → ((k : ℕ) (q : Drive) → slice_get rs k ≡ Some q → drive_of q ≡ f k) → drive_of r ≡ f n → (k : ℕ) (q : Drive) → slice_get (rs ++ r ∷ []) k ≡ Some q → drive_of q ≡ f k
+next_drive f [] r n l h e zero q g = let same : r ≡ q = cc in ap drive_of (sym same) ∙ e ∙ ap f (sym l)
+next_drive f [] r n l h e (suc k) q g = absurd (cc)
+next_drive f (x ∷ xs) r n l h e zero q g = h zero q g
+next_drive f (x ∷ xs) r n l h e (suc k) q g =
+    next_drive (λ j. f (suc j)) xs r (length xs) refl (λ j p t. h (suc j) p t) (e ∙ ap f (sym l)) k q g
+
+pub drives_more : (d : Design) (n : ℕ) (rs : List Drive) (r : Drive) → DrivesTo d n rs → drive_of r ≡ drive d n → DrivesTo d (n + 1) (rs ++ r ∷ [])
+drives_more d n rs r h e = record {
+  long = omega (arith, length-append rs (r ∷ []), h.long);
+  each = next_drive (drive d) rs r n h.long h.each e;
+}
+
+pub are_drives : (d : Design) (n : ℕ) (rs : List Drive) → n ≡ length d.signals → DrivesTo d n rs → AreDrives d rs
+are_drives d n rs e h = record { long = h.long ∙ e; each = h.each }
