@@ -1,6 +1,7 @@
 pub mod Counted
 pub mod Driven
 pub mod Inside
+pub mod Lines
 pub mod Operands
 pub mod Owners
 pub mod Plain

@@ -4,4 +4,5 @@
 pub mod drives;
 pub mod exprs;
 pub mod nets;
+pub mod ports;
 pub mod tables;
