@@ -1,17 +1,19 @@
 -- The nets of signals.
-use Rattle.std.proofs.Common.{◌≡◌, ℕ, zero, suc, ◌+◌, List, [], ◌∷◌, ◌++◌, length, refl, sym, ap, ◌∙◌, arith, length-append}
+use Rattle.std.proofs.Common.{◌≡◌, ℕ, zero, suc, ◌+◌, ◌<◌, List, [], ◌∷◌, ◌++◌, length, get_or, refl, sym, ap, subst, ◌∙◌, arith, length-append}
 use Rattle.std.specs.Prelude.{Option, Some, slice_get}
 use Rattle.lx_num.specs.declared.Shape.{Shape}
 use Rattle.lx_circuit.specs.Circuit as circuit
 use Rattle.lx_vtext.specs.Tree.{Name, VLiteral, VNet}
+use Rattle.lx_fhdl.specs.Keeping.{Keeps}
 use Rattle.lx_fhdl.specs.declared.design.Signal.{Signal}
 use Rattle.lx_fhdl.specs.declared.design.Design.{Design}
 use Rattle.lx_emission.specs.Naming.{net}
 use Rattle.lx_emission.specs.Signals as signals
-use Rattle.lx_emission.specs.Signals.{literal_of, shape_of_signal, reset_of_signal, init_of, drive, signal_net}
+use Rattle.lx_emission.specs.Signals.{literal_of, shape_of_signal, reset_of_signal, init_of, drive, signal_net, assign_by, signal_assign}
 use Rattle.lx_emit.specs.declared.drives.Drive.{Drive}
-use Rattle.lx_emit.specs.Drives.{AreDrives, drive_of}
-use Rattle.lx_emit.proofs.Owners.{made_is}
+use Rattle.lx_emit.specs.Drives.{AreDrives, IsThere, drive_of}
+use Rattle.lx_emit.proofs.Counted.{item_there}
+use Rattle.lx_emit.proofs.Owners.{made_is, drive_there}
 
 pub reset_is : (d : Design) (k : ℕ) (s : Signal) → slice_get d.signals k ≡ Some s → literal_of s.shape s.reset ≡ literal_of (shape_of_signal d k) (reset_of_signal d k)
 reset_is d k s e = sym (ap (λ (m : circuit.Made). literal_of m.shape m.reset) (made_is d k s e))
@@ -51,3 +53,15 @@ drives_more d n rs r h e = record {
 
 pub are_drives : (d : Design) (n : ℕ) (rs : List Drive) → n ≡ length d.signals → DrivesTo d n rs → AreDrives d rs
 are_drives d n rs e h = record { long = h.long ∙ e; each = h.each }
+
+-- ---- one of these drives
+
+pub drive_at : (d : Design) (rs : List Drive) (k : ℕ) (r : Drive) → AreDrives d rs → k < length rs → r ≡ get_or rs k r → drive_of r ≡ drive d k
+drive_at d rs k r h l e = h.each k r (item_there rs rs k r refl l e)
+
+pub there_at : (d : Design) (rs : List Drive) (k : ℕ) (r : Drive) → Keeps d → AreDrives d rs → k < length rs → r ≡ get_or rs k r → IsThere d (drive_of r)
+there_at d rs k r keeps h l e = subst (IsThere d) (sym (drive_at d rs k r h l e)) (drive_there d k keeps)
+
+pub assign_line : (d : Design) (names : List Name) (rs : List Drive) (k : ℕ) (r : Drive) → AreDrives d rs → k < length rs → r ≡ get_or rs k r → assign_by d names k (drive_of r) ≡ signal_assign d names k
+unfolding signal_assign
+assign_line d names rs k r h l e = ap (assign_by d names k) (drive_at d rs k r h l e)

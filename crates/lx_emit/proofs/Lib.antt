@@ -1,3 +1,4 @@
+pub mod Assigned
 pub mod Counted
 pub mod Driven
 pub mod Inside

@@ -1,7 +1,8 @@
 -- Lists that are made item by item.
-use Rattle.std.proofs.Common.{◌≡◌, ℕ, zero, suc, ◌+◌, ◌<◌, ◌≤◌, true, false, List, [], ◌∷◌, ◌++◌, length, drop, flat_map, refl, sym, ap, ◌∙◌, arith, add-one, append_assoc}
+use Rattle.std.proofs.Common.{◌≡◌, ℕ, zero, suc, ◌+◌, ◌<◌, ◌≤◌, true, false, List, [], ◌∷◌, ◌++◌, length, take, drop, flat_map, refl, sym, ap, ◌∙◌, arith, add-one, append_assoc}
 use Rattle.std.specs.Prelude.{Option, Some, slice_get}
 use Rattle.std.proofs.lemmas.List.{append-nil}
+use Rattle.std.proofs.lemmas.Grind.{flat_map-append}
 use Rattle.lx_fhdl.specs.declared.design.Domain.{Domain}
 use Rattle.lx_fhdl.specs.declared.design.Design.{Design}
 use Rattle.lx_vtext.specs.Tree.{Name, VPort}
@@ -32,16 +33,37 @@ last_piece now left all h e = sym (append-nil now) ∙ ap (λ (l : List _). now 
 
 -- ---- pieces for the places of a list
 
-places_suc : {T : Type 0} (xs : List T) (j k : ℕ) → k < length xs → places_from j (drop k xs) ≡ j ∷ places_from (j + 1) (drop (suc k) xs)
-places_suc [] j k l = absurd (omega arith)
-places_suc (y ∷ ys) j zero l = refl
-places_suc (y ∷ ys) j (suc k) l = places_suc ys j k (omega arith)
+-- those of the first n places
+abbrev pub pieces : {T B : Type 0} → (ℕ → List B) → List T → ℕ → List B
+pieces f xs n = flat_map f (take n (places_from 0 xs))
 
-pub places_next : {T B : Type 0} (f : ℕ → List B) (xs : List T) (k : ℕ) → k < length xs → flat_map f (places_from k (drop k xs)) ≡ f k ++ flat_map f (places_from (k + 1) (drop (k + 1) xs))
-places_next f xs k l = ap (flat_map f) (places_suc xs k k l) ∙ ap (λ (j : ℕ). f k ++ flat_map f (places_from (k + 1) (drop j xs))) (sym (add-one k))
+take_place : {T : Type 0} (xs : List T) (j k : ℕ) → k < length xs → take (suc k) (places_from j xs) ≡ take k (places_from j xs) ++ (j + k) ∷ []
+take_place [] j k l = absurd (omega arith)
+take_place (y ∷ ys) j zero l = let e : j ≡ j + 0 = omega arith in ap (λ (i : ℕ). i ∷ []) e
+take_place (y ∷ ys) j (suc k) l =
+    let e : j + 1 + k ≡ j + suc k = omega arith in
+    ap (λ (l : List ℕ). j ∷ l) (take_place ys (j + 1) k (omega arith) ∙ ap (λ (i : ℕ). take k (places_from (j + 1) ys) ++ i ∷ []) e)
 
-pub places_end : {T B : Type 0} (f : ℕ → List B) (xs : List T) (k : ℕ) → length xs ≤ k → flat_map f (places_from k (drop k xs)) ≡ []
-places_end f xs k l = ap (λ (ys : List _). flat_map f (places_from k ys)) (drop_past xs k l)
+pub pieces_more : {T B : Type 0} (f : ℕ → List B) (xs : List T) (k : ℕ) → k < length xs → pieces f xs (k + 1) ≡ pieces f xs k ++ f k
+pieces_more f xs k l =
+    let e : 0 + k ≡ k = omega arith in
+    rw add-one
+    (ap (flat_map f) (take_place xs 0 k l) ∙ flat_map-append f (take k (places_from 0 xs)) ((0 + k) ∷ []) ∙ ap (λ (i : ℕ). pieces f xs k ++ flat_map f (i ∷ [])) e ∙ ap (λ (bs : List _). pieces f xs k ++ bs) (append-nil (f k)))
+
+taken_places : {T : Type 0} (xs : List T) (j k : ℕ) → length xs ≤ k → take k (places_from j xs) ≡ places_from j xs
+taken_places [] j zero l = refl
+taken_places [] j (suc k) l = refl
+taken_places (y ∷ ys) j zero l = absurd (omega arith)
+taken_places (y ∷ ys) j (suc k) l = ap (λ (l : List ℕ). j ∷ l) (taken_places ys (j + 1) k (omega arith))
+
+pub pieces_all : {T B : Type 0} (f : ℕ → List B) (xs : List T) (k : ℕ) → length xs ≤ k → pieces f xs k ≡ flat_map f (places_from 0 xs)
+pieces_all f xs k l = ap (flat_map f) (taken_places xs 0 k l)
+
+pub pieces_next : {T B : Type 0} (f : ℕ → List B) (xs : List T) (k : ℕ) (before now next : List B) → k < length xs → now ≡ before ++ pieces f xs k → next ≡ now ++ f k → next ≡ before ++ pieces f xs (k + 1)
+pieces_next f xs k before now next l h e = e ∙ ap (λ (bs : List _). bs ++ f k) h ∙ append_assoc before (pieces f xs k) (f k) ∙ ap (λ (bs : List _). before ++ bs) (sym (pieces_more f xs k l))
+
+pub pieces_end : {T B : Type 0} (f : ℕ → List B) (xs : List T) (k : ℕ) (before now : List B) → length xs ≤ k → now ≡ before ++ pieces f xs k → now ≡ before ++ flat_map f (places_from 0 xs)
+pieces_end f xs k before now l h = h ∙ ap (λ (bs : List _). before ++ bs) (pieces_all f xs k l)
 
 -- ---- ports of domains
 

@@ -1,3 +1,4 @@
 pub mod Drives
+pub mod Lines
 pub mod Operands
 pub mod Tables

@@ -57,6 +57,7 @@ fn put_node(
 }
 
 // Adds the nets of all signals that are no ports.
+#[tactic(auto, using(crate::proofs::Lines::pieces_next, crate::proofs::Lines::pieces_end))]
 fn put_signals(
     alloc: Global,
     sheet: &Sheet,
@@ -74,6 +75,7 @@ fn put_signals(
 }
 
 // Adds the nets of all operators and slices.
+#[tactic(auto, using(crate::proofs::Lines::pieces_next, crate::proofs::Lines::pieces_end))]
 fn put_nodes(alloc: Global, sheet: &Sheet, decls: &mut List<Decl>) -> Result<(), NoMemory>
     requires { IsSheet sheet.now }
     ensures { OnOk result (map decl_of decls.new ≡ map decl_of decls.old ++ flat_map (node_decl sheet.now.design.now sheet.now.names.now) (places_from 0 sheet.now.design.now.exprs)) }

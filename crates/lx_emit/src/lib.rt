@@ -1,6 +1,7 @@
 //! The Verilog module of a lowered design, in arenas.
 #![tactic(auto)]
 
+pub mod assigns;
 pub mod decls;
 pub mod drives;
 pub mod exprs;
