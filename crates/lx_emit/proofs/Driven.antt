@@ -1,5 +1,5 @@
 -- The nets of signals.
-use Rattle.std.proofs.Common.{◌≡◌, ℕ, zero, suc, ◌+◌, ◌<◌, List, [], ◌∷◌, ◌++◌, length, get_or, refl, sym, ap, subst, ◌∙◌, arith, length-append}
+use Rattle.std.proofs.Common.{◌≡◌, ℕ, ◌<◌, List, length, get_or, refl, sym, ap, subst, ◌∙◌}
 use Rattle.std.specs.Prelude.{Option, Some, slice_get}
 use Rattle.lx_num.specs.declared.Shape.{Shape}
 use Rattle.lx_circuit.specs.Circuit as circuit
@@ -34,25 +34,6 @@ net_is d names k s n i r e f g h =
 pub record DrivesTo (d : Design) (n : ℕ) (rs : List Drive) : Type 0 where
   pub long : length rs ≡ n
   pub each : (k : ℕ) (r : Drive) → slice_get rs k ≡ Some r → drive_of r ≡ drive d k
-
-pub drives_none : (d : Design) → DrivesTo d 0 []
-drives_none d = record { long = refl; each = λ k r e. absurd (cc) }
-
-next_drive : (f : ℕ → signals.Drive) (rs : List Drive) (r : Drive) (n : ℕ) → length rs ≡ n → ((k : ℕ) (q : Drive) → slice_get rs k ≡ Some q → drive_of q ≡ f k) → drive_of r ≡ f n → (k : ℕ) (q : Drive) → slice_get (rs ++ r ∷ []) k ≡ Some q → drive_of q ≡ f k
-next_drive f [] r n l h e zero q g = let same : r ≡ q = cc in ap drive_of (sym same) ∙ e ∙ ap f (sym l)
-next_drive f [] r n l h e (suc k) q g = absurd (cc)
-next_drive f (x ∷ xs) r n l h e zero q g = h zero q g
-next_drive f (x ∷ xs) r n l h e (suc k) q g =
-    next_drive (λ j. f (suc j)) xs r (length xs) refl (λ j p t. h (suc j) p t) (e ∙ ap f (sym l)) k q g
-
-pub drives_more : (d : Design) (n : ℕ) (rs : List Drive) (r : Drive) → DrivesTo d n rs → drive_of r ≡ drive d n → DrivesTo d (n + 1) (rs ++ r ∷ [])
-drives_more d n rs r h e = record {
-  long = omega (arith, length-append rs (r ∷ []), h.long);
-  each = next_drive (drive d) rs r n h.long h.each e;
-}
-
-pub are_drives : (d : Design) (n : ℕ) (rs : List Drive) → n ≡ length d.signals → DrivesTo d n rs → AreDrives d rs
-are_drives d n rs e h = record { long = h.long ∙ e; each = h.each }
 
 -- ---- one of these drives
 

@@ -17,19 +17,9 @@ drop_suc (y ∷ ys) (suc k) x e = drop_suc ys k x e
 pub drop_at : {T : Type 0} (xs : List T) (k : ℕ) (x : T) → slice_get xs k ≡ Some x → drop k xs ≡ x ∷ drop (k + 1) xs
 drop_at xs k x e = rw add-one (drop_suc xs k x e)
 
-pub drop_past : {T : Type 0} (xs : List T) (k : ℕ) → length xs ≤ k → drop k xs ≡ []
-drop_past [] zero l = refl
-drop_past [] (suc k) l = refl
-drop_past (y ∷ ys) zero l = absurd (omega arith)
-drop_past (y ∷ ys) (suc k) l = drop_past ys k (omega arith)
-
 -- one piece more of what is left
 pub next_piece : {B : Type 0} (before now piece left left_now all : List B) → before ++ left ≡ all → left ≡ piece ++ left_now → now ≡ before ++ piece → now ++ left_now ≡ all
 next_piece before now piece left left_now all h e f = ap (λ (l : List _). l ++ left_now) f ∙ append_assoc before piece left_now ∙ ap (λ (l : List _). before ++ l) (sym e) ∙ h
-
--- nothing is left
-pub last_piece : {B : Type 0} (now left all : List B) → now ++ left ≡ all → left ≡ [] → now ≡ all
-last_piece now left all h e = sym (append-nil now) ∙ ap (λ (l : List _). now ++ l) (sym e) ∙ h
 
 -- ---- pieces for the places of a list
 
