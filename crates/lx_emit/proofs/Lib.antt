@@ -3,3 +3,6 @@ pub mod Counted
 pub mod Shaped
 pub mod Puts
 pub mod Written
+pub mod Statements
+pub mod Plain
+pub mod Grown

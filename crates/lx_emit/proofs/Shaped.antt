@@ -64,6 +64,9 @@ pub shapes_are : (d : Design) (k : ℕ) → shapes d k ≡ signal_shape d.signal
 unfolding circuit_of
 shapes_are d k = signal_same d.signals k
 
+pub signal_shape_is : (d : Design) (k : ℕ) (x : Signal) → slice_get d.signals k ≡ Some x → x.shape ≡ shapes d k
+signal_shape_is d k x e = sym (ap shape_of_one e) ∙ sym (shapes_are d k)
+
 by_signals : (s r : Shapes) (hs : List Shape) (x : Expr) → ((k : ℕ) → s k ≡ r k) → node_shape s hs x ≡ node_shape r hs x
 by_signals s r hs (Const value bits signed) h = refl
 by_signals s r hs (Sig x) h = h x.0

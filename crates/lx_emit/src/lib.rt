@@ -2,4 +2,5 @@
 #![tactic(auto)]
 
 pub mod exprs;
+pub mod stmts;
 pub mod tables;

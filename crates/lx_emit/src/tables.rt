@@ -4,11 +4,12 @@ ghost use Rattle.std.specs.Prelude.{◌≡◌, ◌<◌, ◌+◌, ◌^◌, suc, N
 ghost use Rattle.lx_fhdl.specs.Below.{expr_below};
 ghost use Rattle.lx_fhdl.specs.Nodes.{HasParts, node_fault, node_shape};
 ghost use Rattle.lx_width.specs.Width.{NamesBelow, signal_shape};
+ghost use Rattle.lx_fhdl.specs.Designs.{shapes};
 ghost use Rattle.lx_fhdl.specs.Keeping.{Keeps};
-ghost use Rattle.lx_emission.specs.Naming.{has_net};
-ghost use Rattle.lx_emit.specs.Tables.{AreNumbers, AreShapes};
+ghost use Rattle.lx_emission.specs.Naming.{has_net, net};
+ghost use Rattle.lx_emit.specs.Tables.{AreNumbers, AreShapes, IsSheet};
 
-use lx_fhdl::{Design, Expr, Signal};
+use lx_fhdl::{Design, Expr, SigId, Signal};
 use lx_num::Shape;
 use lx_text::{List, NoMemory, Word};
 use lx_width::node_shape;
@@ -87,4 +88,23 @@ pub fn shapes(alloc: Global, design: &Design) -> Result<List<Shape>, NoMemory>
         shapes.push(shape)?;
     }
     Ok(shapes)
+}
+
+/// The name of a signal's net.
+#[tactic(auto, using(crate::proofs::Operands::name_is))]
+pub fn net_name(alloc: Global, sheet: &Sheet, x: SigId) -> Result<Word, NoMemory>
+    requires sheet { IsSheet sheet.now }
+    requires signal { x.0 < length sheet.now.design.now.signals }
+    ensures { IfOk result (λ word. word ≡ net sheet.now.names.now x.0) }
+{
+    sheet.names.at(x.0).copied(alloc)
+}
+
+/// The shape of a signal.
+#[tactic(auto, using(crate::proofs::Shaped::signal_shape_is))]
+pub fn shape_of_signal(sheet: &Sheet, x: SigId) -> Shape
+    requires { x.0 < length sheet.now.design.now.signals }
+    ensures { result ≡ shapes sheet.now.design.now x.0 }
+{
+    sheet.design.signals.at(x.0).shape
 }
