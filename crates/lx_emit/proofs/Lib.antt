@@ -6,3 +6,4 @@ pub mod Written
 pub mod Statements
 pub mod Plain
 pub mod Grown
+pub mod Resets

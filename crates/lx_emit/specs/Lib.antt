@@ -1,3 +1,4 @@
 pub mod Operands
 pub mod Puts
+pub mod Resets
 pub mod Tables

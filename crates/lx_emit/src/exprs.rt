@@ -45,7 +45,7 @@ pub fn node_name(alloc: Global, n: usize) -> Result<Word, NoMemory>
 }
 
 /// The literal of a constant.
-fn constant(value: i128, bits: u32, signed: bool) -> Literal
+pub(crate) fn constant(value: i128, bits: u32, signed: bool) -> Literal
     requires some { 0 < bits }
     requires most { bits < 128 }
     ensures { tree.Literal result.bits result.signed result.value ≡ tree.Literal bits signed (modulo value (2 ^ bits)) }
