@@ -162,3 +162,6 @@ block_put e0 e1 s0 s1 before after g ids e p = record {
       ∙ ap (λ (ts : List tree.VStmt). before_end ts tree.EndBlock) (p.trees ∙ ap (λ (is : List StmtRef). trees_of (stmt_at (tree_at e0) s0) is ++ texts_of g ids) e)
       ∙ texts_block g ids tree.EndBlock;
 }
+
+pub none_placed : (n : ℕ) (s : List VStmt) → s ≡ [] → StmtsPlaced n s
+none_placed n s e = record { placed = λ k. rw e tt }

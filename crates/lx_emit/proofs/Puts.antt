@@ -35,10 +35,6 @@ grows_more a b c g h = record { longer = omega (arith, g.longer, h.longer); stay
 pub kept : (a b c : List VExpr) (i : ℕ) (t : tree.VExpr) → Put a b i t → Grows b c → Put a c i t
 kept a b c i t p g = record { grows = grows_more a b c p.grows g; within = omega (arith, p.within, g.longer); tree = g.stays i p.within ∙ p.tree }
 
--- a tree that is put after others
-pub later : (a b c : List VExpr) (i : ℕ) (t : tree.VExpr) → Grows a b → Put b c i t → Put a c i t
-later a b c i t g p = record { grows = grows_more a b c g p.grows; within = p.within; tree = p.tree }
-
 pub put_node : (a b c : List VExpr) (i : ℕ) (e : VExpr) (t : tree.VExpr) → Grows a b → Added b c i e → plant (tree_at b) e ≡ t → Put a c i t
 put_node a b c i e t g p s = record { grows = grows_more a b c g p.grows; within = p.within; tree = p.tree ∙ s }
 
