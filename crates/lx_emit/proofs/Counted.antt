@@ -4,9 +4,7 @@ use Rattle.std.specs.Prelude.{Some, slice_get, slice_index_or, if◌then◌else�
 use Rattle.std.proofs.lemmas.Bool.{cases_lt}
 use Rattle.std.proofs.lemmas.Option.{slice_get-get_or}
 use Rattle.lx_fhdl.specs.declared.exprs.Expr.{Expr}
-use Rattle.lx_fhdl.specs.declared.design.Design.{Design}
 use Rattle.lx_emission.specs.Naming.{has_net, nets_before}
-use Rattle.lx_emit.specs.Tables.{AreNumbers}
 
 -- ---- lists that grow at the end
 
@@ -80,6 +78,3 @@ numbers_more xs n ns next x h e = record {
   reached = ap (added (has_net x)) h.reached ∙ sym (next_net xs n x e);
   least = added_least (has_net x) next n h.least;
 }
-
-pub are_numbers : (d : Design) (xs : List Expr) (ns : List ℕ) (n next : ℕ) → xs ≡ d.exprs → n ≡ length xs → NumbersTo d.exprs n ns next → AreNumbers d ns
-are_numbers d xs ns n next e l h = let m : n ≡ length d.exprs = l ∙ ap length e in record { long = h.long ∙ m; each = λ k p. h.each k (omega arith) }

@@ -13,7 +13,7 @@ use Rattle.lx_fhdl.specs.declared.exprs.SigId.{SigId}
 use Rattle.lx_fhdl.specs.declared.design.Design.{Design}
 use Rattle.lx_fhdl.proofs.Arena.{constant_small}
 use Rattle.lx_fhdl.proofs.Trees.{term_at-is}
-use Rattle.lx_emission.specs.Naming.{node_name, node_net}
+use Rattle.lx_emission.specs.Naming.{net, node_name, node_net}
 use Rattle.lx_emission.specs.Nodes.{operand_of, operand}
 use Rattle.lx_emit.specs.Tables.{AreNumbers}
 
@@ -43,9 +43,8 @@ name_is [] k n e = absurd (cc)
 name_is (m ∷ ms) zero n e = cc
 name_is (m ∷ ms) (suc k) n e = name_is ms k n e
 
-pub signal_operand : (d : Design) (names : List Name) (k : ℕ) (x : Expr) (y : SigId) (n m : Name) → slice_get d.exprs k ≡ Some x → x ≡ Sig y → slice_get names y.0 ≡ Some n → m ≡ n → tree.Net m ≡ operand d names k
-signal_operand d names k x y n m e f g h =
-    ap tree.Net (h ∙ name_is names y.0 n g) ∙ sym (operand_is d names k x e ∙ ap (λ (z : Expr). operand_of names (node_net d.exprs k) (Some z)) f)
+pub signal_operand : (d : Design) (names : List Name) (k : ℕ) (x : Expr) (y : SigId) (n : Name) → slice_get d.exprs k ≡ Some x → x ≡ Sig y → n ≡ net names y.0 → tree.Net n ≡ operand d names k
+signal_operand d names k x y n e f g = ap tree.Net g ∙ sym (operand_is d names k x e ∙ ap (λ (z : Expr). operand_of names (node_net d.exprs k) (Some z)) f)
 
 own_operand : (names : List Name) (own : Name) (x : Expr) → ((value : ℤ) (bits : ℕ) (signed : Bool) → x ≡ Const value bits signed → ⊥) → ((y : SigId) → x ≡ Sig y → ⊥) → tree.Net own ≡ operand_of names own (Some x)
 own_operand names own (Const value bits signed) f g = absurd (f value bits signed refl)

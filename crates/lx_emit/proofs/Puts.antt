@@ -1,6 +1,6 @@
 -- Trees that are put into an arena one after the other.
 use Rattle.std.proofs.Common.{◌≡◌, ℕ, zero, suc, ◌+◌, ◌<◌, ◌≤◌, true, drop, get_or, take, nat_lt, ◌-◌, ltb-true, lt-ltb, List, [], ◌∷◌, ◌++◌, length, refl, sym, ap, subst, ◌∙◌, arith}
-use Rattle.std.specs.Prelude.{Result, Ok, Err, IfOk, IsTrue}
+use Rattle.std.specs.Prelude.{Result, Ok, Err, IfOk, OnOk, IsTrue}
 use Rattle.std.proofs.Math.Seq.{take-suc, take-length}
 use Rattle.lx_arena.specs.declared.Id.{Id}
 use Rattle.lx_vtext.specs.Tree as tree
@@ -21,6 +21,10 @@ pub if_ok : {T E : Type 0} (r : Result T E) (P Q : T → Type 0) → ((x : T) �
 if_ok (Ok x) P Q f h = f x h
 if_ok (Err e) P Q f h = tt
 
+pub if_both : {T E : Type 0} (r : Result T E) (P : T → Type 0) (Q : Type 0) (R : T → Type 0) → ((x : T) → P x → Q → R x) → IfOk r P → OnOk r Q → IfOk r R
+if_both (Ok x) P Q R f h g = f x h g
+if_both (Err e) P Q R f h g = tt
+
 pub put_ok : {E : Type 0} (r : Result (Id InExprs) E) (old new : List VExpr) (t u : tree.VExpr) → t ≡ u → IfOk r (λ i. Put old new i.place t) → IfOk r (λ i. Put old new i.place u)
 put_ok r old new t u e h = subst (λ (x : tree.VExpr). IfOk r (λ i. Put old new i.place x)) e h
 
@@ -30,10 +34,6 @@ grows_more a b c g h = record { longer = omega (arith, g.longer, h.longer); stay
 -- a tree that was put stays
 pub kept : (a b c : List VExpr) (i : ℕ) (t : tree.VExpr) → Put a b i t → Grows b c → Put a c i t
 kept a b c i t p g = record { grows = grows_more a b c p.grows g; within = omega (arith, p.within, g.longer); tree = g.stays i p.within ∙ p.tree }
-
--- a tree that is put after others
-pub later : (a b c : List VExpr) (i : ℕ) (t : tree.VExpr) → Grows a b → Put b c i t → Put a c i t
-later a b c i t g p = record { grows = grows_more a b c g p.grows; within = p.within; tree = p.tree }
 
 pub put_node : (a b c : List VExpr) (i : ℕ) (e : VExpr) (t : tree.VExpr) → Grows a b → Added b c i e → plant (tree_at b) e ≡ t → Put a c i t
 put_node a b c i e t g p s = record { grows = grows_more a b c g p.grows; within = p.within; tree = p.tree ∙ s }

@@ -1,5 +1,5 @@
 -- Shapes and faults of nodes from those of their trees' parts.
-use Rattle.std.proofs.Common.{◌≡◌, ℕ, zero, suc, ◌+◌, ◌<◌, ◌≤◌, false, List, [], ◌∷◌, ◌++◌, length, map, ltb-true, refl, sym, ap, subst, ◌∙◌, arith, length-append}
+use Rattle.std.proofs.Common.{◌≡◌, ℕ, zero, suc, ◌+◌, ◌<◌, ◌≤◌, false, List, [], ◌∷◌, ◌++◌, length, map, ltb-true, refl, sym, ap, ◌∙◌, arith, length-append}
 use Rattle.std.specs.Prelude.{ℤ, Some, None, slice_get, slice_index_or}
 use Rattle.lx_num.specs.declared.Shape.{Shape}
 use Rattle.lx_num.specs.Ints.{Fits, shape}
@@ -9,7 +9,7 @@ use Rattle.lx_circuit.specs.Shapes.{Shapes, shape_of, shapes_of, fault_of, unary
 use Rattle.lx_fhdl.specs.Below.{ExprId}
 use Rattle.lx_fhdl.specs.Designs.{made_of, circuit_of, shapes}
 use Rattle.lx_fhdl.specs.Keeping.{EachOf, IsSignal, NamesBelow, Keeps}
-use Rattle.lx_fhdl.specs.Nodes.{EachPlace, EachChild, FitsSignal, IsNode, IsShaped, IsSmall, value_at, shape_at, shapes_at, node_shape, node_fault}
+use Rattle.lx_fhdl.specs.Nodes.{EachPlace, EachChild, FitsSignal, IsNode, IsShaped, value_at, shape_at, shapes_at, node_shape, node_fault}
 use Rattle.lx_fhdl.specs.Trees.{terms_at, node_term, term_at}
 use Rattle.lx_fhdl.specs.declared.exprs.Expr.{Expr}
 use Rattle.lx_fhdl.specs.declared.exprs.Expr.TheVariants.{Const, Sig, Unary, Binary, Mux, Cat, Pick, Replicate, Slice}
@@ -183,10 +183,6 @@ node_is d hs k x keeps a e =
 
 is_shaped : (d : Design) (hs : List Shape) → Keeps d → AreShapes d hs → IsShaped d.exprs hs (resets d.signals)
 is_shaped d hs keeps a = record { long = a.long; each = λ k x e. node_is d hs k x keeps a e }
-
-pub node_small : (d : Design) (hs : List Shape) (k : ℕ) → Keeps d → AreShapes d hs → k < length d.exprs → IsSmall (emission.node_shape d k)
-node_small d hs k keeps a h =
-    subst (λ (b : Shape). IsSmall b) (a.each k h) (small_below d.exprs hs (resets d.signals) keeps.exprs_lower (is_shaped d hs keeps a) (length d.exprs) (omega arith) k h)
 
 -- a slice is inside its operand
 pub slice_bits : (d : Design) (hs : List Shape) (k : ℕ) (x : Expr) (of : ExprId) (low high : ℕ) → Keeps d → AreShapes d hs → slice_get d.exprs k ≡ Some x → x ≡ Slice of low high → (low < high) × (high < 128)

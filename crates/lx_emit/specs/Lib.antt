@@ -1,4 +1,6 @@
 pub mod Drives
 pub mod Lines
 pub mod Operands
+pub mod Puts
+pub mod Resets
 pub mod Tables

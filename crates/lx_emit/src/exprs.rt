@@ -16,7 +16,7 @@ ghost use Rattle.lx_emission.specs.Nodes.{operand, node_shape, node_text, wide_i
 ghost use Rattle.lx_emit.specs.Operands.{tree_of};
 ghost use Rattle.lx_emit.specs.Tables.{IsSheet, Put, PutParts, text_of};
 
-use crate::tables::Sheet;
+use crate::tables::{Sheet, net_name};
 use lx_arena::Arena;
 use lx_fhdl::{Expr, ExprId};
 use lx_num::{Shape, field};
@@ -45,7 +45,7 @@ pub fn node_name(alloc: Global, n: usize) -> Result<Word, NoMemory>
 }
 
 /// The literal of a constant.
-fn constant(value: i128, bits: u32, signed: bool) -> Literal
+pub(crate) fn constant(value: i128, bits: u32, signed: bool) -> Literal
     requires some { 0 < bits }
     requires most { bits < 128 }
     ensures { tree.Literal result.bits result.signed result.value ≡ tree.Literal bits signed (modulo value (2 ^ bits)) }
@@ -70,7 +70,7 @@ pub fn operand_of(alloc: Global, sheet: &Sheet, id: ExprId) -> Result<Operand, N
             bits,
             signed,
         } => Ok(Operand::Literal(constant(*value, *bits, *signed))),
-        Expr::Sig(x) => Ok(Operand::Net(sheet.names.at(x.0).copied(alloc)?)),
+        Expr::Sig(x) => Ok(Operand::Net(net_name(alloc, sheet, *x)?)),
         _ => Ok(Operand::Net(node_name(alloc, sheet.numbers[id.place])?)),
     }
 }

@@ -2,9 +2,11 @@
 #![tactic(auto)]
 
 pub mod assigns;
+pub mod blocks;
 pub mod decls;
 pub mod drives;
 pub mod exprs;
 pub mod nets;
 pub mod ports;
+pub mod stmts;
 pub mod tables;

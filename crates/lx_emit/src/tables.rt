@@ -16,6 +16,7 @@ use lx_width::node_shape;
 use std::alloc::Global;
 
 /// What is read while the module of a design is made.
+#[derive(Drop)]
 pub struct Sheet<'a> {
     pub design: &'a Design,
     /// The names of the signals' nets.
