@@ -15,9 +15,6 @@ use Rattle.lx_emit.specs.Drives.{AreDrives, IsThere, drive_of}
 use Rattle.lx_emit.proofs.Counted.{item_there}
 use Rattle.lx_emit.proofs.Owners.{made_is, drive_there}
 
-pub reset_is : (d : Design) (k : ℕ) (s : Signal) → slice_get d.signals k ≡ Some s → literal_of s.shape s.reset ≡ literal_of (shape_of_signal d k) (reset_of_signal d k)
-reset_is d k s e = sym (ap (λ (m : circuit.Made). literal_of m.shape m.reset) (made_is d k s e))
-
 abbrev net_by : Shape → Name → Option VLiteral → VNet
 net_by s n i = record { signed = s.signed; bits = s.bits; name = n; init = i }
 

@@ -1,7 +1,10 @@
 -- Lists that are made item by item.
-use Rattle.std.proofs.Common.{◌≡◌, ℕ, zero, suc, ◌+◌, ◌<◌, ◌≤◌, true, false, List, [], ◌∷◌, ◌++◌, length, take, drop, flat_map, refl, sym, ap, ◌∙◌, arith, add-one, append_assoc}
+use Rattle.std.proofs.Common.{◌≡◌, ℕ, zero, suc, ◌+◌, ◌<◌, ◌≤◌, Bool, true, false, List, [], ◌∷◌, ◌++◌, length, take, drop, map, flat_map, refl, sym, ap, ◌∙◌, arith, add-one, append_assoc}
 use Rattle.std.specs.Prelude.{Option, Some, slice_get}
-use Rattle.std.proofs.lemmas.List.{append-nil}
+use Rattle.std.specs.List.{list_all}
+use Rattle.std.proofs.lemmas.List.{append-nil, map-append}
+use Rattle.std.proofs.lemmas.List.Folds.{list_all-append}
+use Rattle.lx_vtree.proofs.Exprs.{both}
 use Rattle.std.proofs.lemmas.Grind.{flat_map-append}
 use Rattle.lx_fhdl.specs.declared.design.Domain.{Domain}
 use Rattle.lx_fhdl.specs.declared.design.Design.{Design}
@@ -20,6 +23,24 @@ drop_at xs k x e = rw add-one (drop_suc xs k x e)
 -- one piece more of what is left
 pub next_piece : {B : Type 0} (before now piece left left_now all : List B) → before ++ left ≡ all → left ≡ piece ++ left_now → now ≡ before ++ piece → now ++ left_now ≡ all
 next_piece before now piece left left_now all h e f = ap (λ (l : List _). l ++ left_now) f ∙ append_assoc before piece left_now ∙ ap (λ (l : List _). before ++ l) (sym e) ∙ h
+
+-- ---- items that name places
+
+-- what hangs at the places of a list's items stays
+pub list_stays : {A T : Type 0} (f g : A → T) (p : A → Bool) (xs : List A) → ((x : A) → p x ≡ true → g x ≡ f x) → list_all p xs ≡ true → map g xs ≡ map f xs
+list_stays f g p [] s h = refl
+list_stays f g p (x ∷ xs) s h = let q = both (p x) (list_all p xs) h in rw (s x q.0, list_stays f g p xs s q.1) refl
+
+pub list_wider : {A : Type 0} (p q : A → Bool) (xs : List A) → ((x : A) → p x ≡ true → q x ≡ true) → list_all p xs ≡ true → list_all q xs ≡ true
+list_wider p q [] w h = refl
+list_wider p q (x ∷ xs) w h = let r = both (p x) (list_all p xs) h in rw (w x r.0, list_wider p q xs w r.1) refl
+
+-- an item more
+pub list_more : {A : Type 0} (p q : A → Bool) (xs : List A) (x : A) → ((y : A) → p y ≡ true → q y ≡ true) → list_all p xs ≡ true → q x ≡ true → list_all q (xs ++ x ∷ []) ≡ true
+list_more p q xs x w h e = list_all-append q xs (x ∷ []) ∙ (rw (list_wider p q xs w h, e) refl)
+
+pub trees_more : {A T : Type 0} (f g : A → T) (p : A → Bool) (xs : List A) (x : A) (t : T) → ((y : A) → p y ≡ true → g y ≡ f y) → list_all p xs ≡ true → g x ≡ t → map g (xs ++ x ∷ []) ≡ map f xs ++ t ∷ []
+trees_more f g p xs x t s h e = map-append g xs (x ∷ []) ∙ ap (λ (ts : List _). ts ++ g x ∷ []) (list_stays f g p xs s h) ∙ ap (λ (u : _). map f xs ++ u ∷ []) e
 
 -- ---- pieces for the places of a list
 

@@ -9,9 +9,9 @@ ghost use Rattle.lx_emit.specs.Drives.{AreDrives, IsThere, drive_of};
 ghost use Rattle.lx_emit.specs.Lines.{PutAssigns};
 ghost use Rattle.lx_emit.specs.Tables.{IsSheet};
 
+use crate::blocks::put_reset;
 use crate::drives::Drive;
-use crate::exprs::{node_name, put_literal, put_node, put_operand};
-use crate::nets::reset_literal;
+use crate::exprs::{node_name, put_node, put_operand};
 use crate::tables::{Sheet, has_net, net_name};
 use lx_arena::{Arena, Id};
 use lx_fhdl::{ExprId, SigId};
@@ -61,7 +61,7 @@ fn put_signal_assign(
         Drive::Given | Drive::Combined(_) | Drive::Clocked { .. } => Ok(()),
         Drive::Held => {
             let name = net_name(alloc, sheet, x)?;
-            let value = put_literal(exprs, reset_literal(sheet.design, x))?;
+            let value = put_reset(exprs, sheet, x)?;
             assigns.push(Assign { name, value })
         }
         Drive::Equal(of) => {

@@ -1,57 +1,33 @@
 //! Nets: wires, and registers with their reset values (IEEE 1364-2005, "Net and variable declarations").
 
-ghost use Rattle.std.specs.Prelude.{◌≡◌, ◌<◌, ◌≤◌, length, option_map, IfOk};
-ghost use Rattle.lx_fhdl.specs.Keeping.{Keeps};
+ghost use Rattle.std.specs.Prelude.{◌≡◌, ◌<◌, length, option_map, IfOk};
 ghost use Rattle.lx_vtree.specs.Modules.{literal_of, net_of};
 ghost use Rattle.lx_emission.specs.Naming.{clock_name, node_net};
 ghost use Rattle.lx_emission.specs.Nodes.{node_shape};
 ghost use Rattle.lx_emission.specs.Emission.{wire};
-ghost use Rattle.lx_emission.specs.Signals as signals;
 ghost use Rattle.lx_emission.specs.Signals.{init_of, reset_of_signal, shape_of_signal, signal_net};
 ghost use Rattle.lx_emit.specs.Drives.{AreDrives, drive_of};
 ghost use Rattle.lx_emit.specs.Tables.{IsSheet};
 
+use crate::blocks::reset_literal;
 use crate::drives::Drive;
 use crate::exprs::node_name;
 use crate::tables::{Sheet, net_name};
-use lx_fhdl::{Design, Domain, ExprId, SigId};
-use lx_num::{Shape, field};
+use lx_fhdl::{Domain, ExprId, SigId};
+use lx_num::Shape;
 use lx_text::{NoMemory, Text, Word};
 use lx_vtree::{Literal, Net};
 use std::alloc::Global;
 
-/// A value of a shape, as a literal.
-pub fn literal(value: i128, shape: Shape) -> Literal
-    requires some { 1 ≤ shape.bits }
-    requires most { shape.bits ≤ 127 }
-    ensures { literal_of result ≡ signals.literal_of shape value }
-{
-    Literal {
-        bits: shape.bits,
-        signed: shape.signed,
-        value: field(value, 0, shape.bits) as u128,
-    }
-}
-
-/// The reset value of a signal, as a literal of its shape.
-pub fn reset_literal(design: &Design, x: SigId) -> Literal
-    requires keeps { Keeps design.now }
-    requires signal { x.0 < length design.now.signals }
-    ensures { literal_of result ≡ signals.literal_of (shape_of_signal design.now x.0) (reset_of_signal design.now x.0) }
-{
-    let signal = design.signals.at(x.0);
-    literal(signal.reset, signal.shape)
-}
-
 // The first value of a signal's net, where a block drives it.
-fn init(design: &Design, drive: &Drive, x: SigId) -> Option<Literal>
-    requires keeps { Keeps design.now }
-    requires signal { x.0 < length design.now.signals }
-    ensures { option_map literal_of result ≡ init_of (shape_of_signal design.now x.0) (reset_of_signal design.now x.0) (drive_of drive.now) }
+fn init(sheet: &Sheet, drive: &Drive, x: SigId) -> Option<Literal>
+    requires sheet { IsSheet sheet.now }
+    requires signal { x.0 < length sheet.now.design.now.signals }
+    ensures { option_map literal_of result ≡ init_of (shape_of_signal sheet.now.design.now x.0) (reset_of_signal sheet.now.design.now x.0) (drive_of drive.now) }
 {
     match drive {
         Drive::Given | Drive::Held | Drive::Equal(_) => None,
-        Drive::Combined(_) | Drive::Clocked { .. } => Some(reset_literal(design, x)),
+        Drive::Combined(_) | Drive::Clocked { .. } => Some(reset_literal(sheet, x)),
     }
 }
 
@@ -68,7 +44,7 @@ pub fn signal_net(alloc: Global, sheet: &Sheet, drives: &[Drive], x: SigId) -> R
         signed: shape.signed,
         bits: shape.bits as u64,
         name,
-        init: init(sheet.design, &drives[x.0], x),
+        init: init(sheet, &drives[x.0], x),
     })
 }
 

@@ -8,5 +8,5 @@ returns-then-not-has_net c = no_node_assign _ _ _ _ _ _ c.get.ensures.item (sym 
 
 pub returns : goal.returns
 returns c =
-    assigns_push _ _ _ _ _ _ _ _ _ _ c.requires.placed c.in_ok-value.ensures (c.in_ok-name.ensures ∙ ap node_name (c.requires.sheet.numbers.each c.args.id.place c.requires.place))
+    assigns_push _ _ _ _ _ _ _ _ _ c.requires.placed c.in_ok-value.ensures (c.in_ok-name.ensures ∙ ap node_name (c.requires.sheet.numbers.each c.args.id.place c.requires.place))
     (node_line _ _ _ _ c.get.ensures.item (sym c.has_net.ensures ∙ c.if-not-has_net.false)) c.push.ensures.ok
