@@ -5,15 +5,16 @@ use Rattle.lx_num.specs.declared.Shape.{Shape}
 use Rattle.lx_circuit.specs.Circuit as circuit
 use Rattle.lx_vtext.specs.Tree.{Name, VLiteral, VNet}
 use Rattle.lx_fhdl.specs.Keeping.{Keeps}
+use Rattle.lx_fhdl.specs.Lowered.{IsLowered}
 use Rattle.lx_fhdl.specs.declared.design.Signal.{Signal}
 use Rattle.lx_fhdl.specs.declared.design.Design.{Design}
 use Rattle.lx_emission.specs.Naming.{net}
 use Rattle.lx_emission.specs.Signals as signals
-use Rattle.lx_emission.specs.Signals.{literal_of, shape_of_signal, reset_of_signal, init_of, drive, signal_net, assign_by, signal_assign}
+use Rattle.lx_emission.specs.Signals.{literal_of, shape_of_signal, reset_of_signal, init_of, drive, signal_net, assign_by, signal_assign, always_by, signal_always}
 use Rattle.lx_emit.specs.declared.drives.Drive.{Drive}
-use Rattle.lx_emit.specs.Drives.{AreDrives, IsThere, drive_of}
+use Rattle.lx_emit.specs.Drives.{AreDrives, IsThere, IsPlainDrive, drive_of}
 use Rattle.lx_emit.proofs.Counted.{item_there}
-use Rattle.lx_emit.proofs.Owners.{made_is, drive_there}
+use Rattle.lx_emit.proofs.Owners.{made_is, drive_there, drive_plain}
 
 abbrev net_by : Shape → Name → Option VLiteral → VNet
 net_by s n i = record { signed = s.signed; bits = s.bits; name = n; init = i }
@@ -43,3 +44,10 @@ there_at d rs k r keeps h l e = subst (IsThere d) (sym (drive_at d rs k r h l e)
 pub assign_line : (d : Design) (names : List Name) (rs : List Drive) (k : ℕ) (r : Drive) → AreDrives d rs → k < length rs → r ≡ get_or rs k r → assign_by d names k (drive_of r) ≡ signal_assign d names k
 unfolding signal_assign
 assign_line d names rs k r h l e = ap (assign_by d names k) (drive_at d rs k r h l e)
+
+pub plain_at : (d : Design) (rs : List Drive) (k : ℕ) (r : Drive) → IsLowered d → AreDrives d rs → k < length rs → r ≡ get_or rs k r → IsPlainDrive d (drive_of r)
+plain_at d rs k r low h l e = subst (IsPlainDrive d) (sym (drive_at d rs k r h l e)) (drive_plain d k low)
+
+pub always_line : (d : Design) (names : List Name) (rs : List Drive) (k : ℕ) (r : Drive) → AreDrives d rs → k < length rs → r ≡ get_or rs k r → always_by d names k (drive_of r) ≡ signal_always d names k
+unfolding signal_always
+always_line d names rs k r h l e = ap (always_by d names k) (drive_at d rs k r h l e)

@@ -55,7 +55,7 @@ assign_put e0 e1 s0 s1 v t target u at_once i low p put is a q = record {
 
 -- ---- blocks
 
-block_stays : (g h : ℕ → tree.VStmt) (n : ℕ) (ids : List StmtRef) → ((k : ℕ) → k < n → h k ≡ g k) → are_stmts_below ids n ≡ true → plant_block h ids ≡ plant_block g ids
+pub block_stays : (g h : ℕ → tree.VStmt) (n : ℕ) (ids : List StmtRef) → ((k : ℕ) → k < n → h k ≡ g k) → are_stmts_below ids n ≡ true → plant_block h ids ≡ plant_block g ids
 block_stays g h n [] s b = refl
 block_stays g h n (i ∷ is) s b = let p = both _ _ b in rw (s i.place (ltb-true i.place n p.0), block_stays g h n is s p.1) refl
 
@@ -63,7 +63,7 @@ else_stays : (g h : ℕ → tree.VStmt) (n : ℕ) (o : Option (List StmtRef)) �
 else_stays g h n None s b = refl
 else_stays g h n (Some ids) s b = ap tree.Else (block_stays g h n ids s b)
 
-below_wider : (ids : List StmtRef) (n m : ℕ) → are_stmts_below ids n ≡ true → n ≤ m → are_stmts_below ids m ≡ true
+pub below_wider : (ids : List StmtRef) (n m : ℕ) → are_stmts_below ids n ≡ true → n ≤ m → are_stmts_below ids m ≡ true
 below_wider [] n m h l = refl
 below_wider (i ∷ is) n m h l =
     let p = both _ _ h in

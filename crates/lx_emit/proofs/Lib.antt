@@ -1,4 +1,5 @@
 pub mod Assigned
+pub mod Blocked
 pub mod Counted
 pub mod Driven
 pub mod Grown

@@ -8,7 +8,7 @@ use Rattle.lx_circuit.specs.Circuit.{Role, Input, Comb, Sync, Undriven, nothing,
 use Rattle.lx_fhdl.specs.Below.{ExprId, StmtId, all_stmts_below}
 use Rattle.lx_fhdl.specs.Designs.{stmt, block, stmts_of, signal_number, made_of, domains_from, circuit_of, shapes}
 use Rattle.lx_fhdl.specs.Keeping.{EachOf, PartStands, Keeps}
-use Rattle.lx_fhdl.specs.Lowered.{IsPlain, ArePlain, is_for}
+use Rattle.lx_fhdl.specs.Lowered.{IsPlain, ArePlain, IsLowered, is_for}
 use Rattle.lx_fhdl.specs.declared.exprs.SigId.{SigId}
 use Rattle.lx_fhdl.specs.declared.stmts.Stmt.{Stmt}
 use Rattle.lx_fhdl.specs.declared.stmts.Stmt.TheVariants as statement
@@ -19,7 +19,7 @@ use Rattle.lx_fhdl.specs.declared.design.Design.{Design}
 use Rattle.lx_emission.specs.Emission.{is_port}
 use Rattle.lx_emission.specs.Signals.{Given, Held, Clocked, own, is_whole, whole_value, single, combined, drive_by, drive}
 use Rattle.lx_emission.specs.Texts.{covers}
-use Rattle.lx_emit.specs.Drives.{AreDrivers, AreDomainDrivers, is_driven, picked, first_domain, some_reset, IsThere}
+use Rattle.lx_emit.specs.Drives.{AreDrivers, AreDomainDrivers, is_driven, picked, first_domain, some_reset, IsThere, IsPlainDrive}
 use Rattle.lx_emit.specs.declared.drives.Driver.{Driver}
 use Rattle.lx_emit.proofs.Plain.{for_drives}
 
@@ -291,3 +291,28 @@ by_role_there d x (Sync k) keeps h = (h, own_below d x (length d.stmts) (stmts_o
 pub drive_there : (d : Design) (x : ℕ) → Keeps d → IsThere d (drive d x)
 unfolding drive
 drive_there d x keeps = by_role_there d x (role (circuit_of d) x) keeps (role_there d x)
+
+-- ---- the statements of a drive are plain
+
+one_plain : (b : Bool) (d : Design) (i : StmtId) (is : List StmtId) → IsPlain (stmt d i.place) → ArePlain (block d is) → ArePlain (block d (cond b (i ∷ is) is))
+one_plain true d i is h g = (h, g)
+one_plain false d i is h g = g
+
+own_plain : (d : Design) (x : ℕ) (is : List StmtId) → ArePlain (block d is) → ArePlain (block d (own d x is))
+unfolding own
+own_plain d x [] h = tt
+own_plain d x (i ∷ is) h = one_plain (drives x (stmt d i.place)) d i (own d x is) h.0 (own_plain d x is h.1)
+
+combined_plain : (d : Design) (ids : List StmtId) (o : Option ExprId) → ArePlain (block d ids) → IsPlainDrive d (combined ids o)
+combined_plain d ids None h = h
+combined_plain d ids (Some value) h = tt
+
+by_role_plain : (d : Design) (x : ℕ) (r : Role) → IsLowered d → IsPlainDrive d (drive_by d x r)
+by_role_plain d x Input low = tt
+by_role_plain d x Undriven low = tt
+by_role_plain d x Comb low = combined_plain d (own d x d.comb) (single d (own d x d.comb)) (own_plain d x d.comb low.comb)
+by_role_plain d x (Sync k) low = own_plain d x (stmts_of k d.sync) (domain_plain d k d.sync low.sync)
+
+pub drive_plain : (d : Design) (x : ℕ) → IsLowered d → IsPlainDrive d (drive d x)
+unfolding drive
+drive_plain d x low = by_role_plain d x (role (circuit_of d) x) low

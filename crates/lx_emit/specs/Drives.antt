@@ -3,8 +3,8 @@ use Rattle.std.specs.Prelude.{◌≡◌, ℕ, Bool, false, ◌+◌, ◌<◌, ◌
 use Rattle.lx_circuit.specs.Statements as tree
 use Rattle.lx_circuit.specs.Circuit.{is_reset_name}
 use Rattle.lx_fhdl.specs.Below.{StmtId, all_stmts_below}
-use Rattle.lx_fhdl.specs.Designs.{stmt, stmts_of, signal_number}
-use Rattle.lx_fhdl.specs.Lowered.{is_plain_target, is_for}
+use Rattle.lx_fhdl.specs.Designs.{stmt, block, stmts_of, signal_number}
+use Rattle.lx_fhdl.specs.Lowered.{is_plain_target, is_for, ArePlain}
 use Rattle.lx_fhdl.specs.declared.stmts.Branch.{Branch}
 use Rattle.lx_fhdl.specs.declared.design.Domain.{Domain}
 use Rattle.lx_fhdl.specs.declared.design.Design.{Design}
@@ -90,6 +90,14 @@ IsThere d signals.Held = Unit {0}
 IsThere d (signals.Equal value) = value.place < length d.exprs
 IsThere d (signals.Combined body) = IsTrue (all_stmts_below (length d.stmts) body)
 IsThere d (signals.Clocked domain body) = (domain < length d.domains) × IsTrue (all_stmts_below (length d.stmts) body)
+
+-- its statements are for one signal each
+abbrev pub IsPlainDrive : Design → signals.Drive → Type 0
+IsPlainDrive d signals.Given = Unit {0}
+IsPlainDrive d signals.Held = Unit {0}
+IsPlainDrive d (signals.Equal value) = Unit {0}
+IsPlainDrive d (signals.Combined body) = ArePlain (block d body)
+IsPlainDrive d (signals.Clocked domain body) = ArePlain (block d body)
 
 -- how the net of each signal is driven
 pub record AreDrives (d : Design) (drives : List Drive) : Type 0 where

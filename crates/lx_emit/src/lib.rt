@@ -1,6 +1,7 @@
 //! The Verilog module of a lowered design, in arenas.
 #![tactic(auto)]
 
+pub mod always;
 pub mod assigns;
 pub mod blocks;
 pub mod decls;
