@@ -2,6 +2,7 @@ pub mod Assigned
 pub mod Blocked
 pub mod Counted
 pub mod Driven
+pub mod Emitted
 pub mod Grown
 pub mod Inside
 pub mod Lines

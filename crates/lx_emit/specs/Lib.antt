@@ -4,3 +4,4 @@ pub mod Operands
 pub mod Puts
 pub mod Resets
 pub mod Tables
+pub mod Whole

@@ -11,3 +11,6 @@ pub mod nets;
 pub mod ports;
 pub mod stmts;
 pub mod tables;
+pub mod whole;
+
+pub use whole::emit_design;
