@@ -1,4 +1,4 @@
--- The nets of signals.
+-- How the nets of signals are driven, and the nets.
 use Rattle.std.proofs.Common.{◌≡◌, ℕ, ◌<◌, List, length, get_or, refl, sym, ap, subst, ◌∙◌}
 use Rattle.std.specs.Prelude.{Option, Some, slice_get}
 use Rattle.lx_num.specs.declared.Shape.{Shape}

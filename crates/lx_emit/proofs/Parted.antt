@@ -1,5 +1,5 @@
 -- What a lowered statement is made of.
-use Rattle.std.proofs.Common.{◌≡◌, ℕ, zero, suc, ◌<◌, true, false, ◌&&◌, ◌⊎◌, inl, inr, List, [], ◌∷◌, length, get_or, nat_lt, refl, sym, ap, subst, ◌∙◌, arith, ltb-true}
+use Rattle.std.proofs.Common.{◌≡◌, ℕ, ◌<◌, true, false, ◌&&◌, ◌⊎◌, inl, inr, List, [], ◌∷◌, length, refl, sym, ap, subst, ◌∙◌}
 use Rattle.std.specs.Prelude.{Option, Some, slice_get, IsTrue}
 use Rattle.lx_circuit.specs.Statements as circuit
 use Rattle.lx_vtree.proofs.Exprs.{both}
@@ -11,12 +11,11 @@ use Rattle.lx_fhdl.specs.Stmts.{branches_at, node_stmt, target_of, target_within
 use Rattle.lx_fhdl.specs.declared.stmts.Target.{Target}
 use Rattle.lx_fhdl.specs.declared.stmts.Target.TheVariants as of
 use Rattle.lx_fhdl.specs.declared.stmts.Branch.{Branch}
-use Rattle.lx_fhdl.specs.declared.stmts.Arm.{Arm}
 use Rattle.lx_fhdl.specs.declared.stmts.Stmt.{Stmt}
 use Rattle.lx_fhdl.specs.declared.stmts.Stmt.TheVariants as node
 use Rattle.lx_fhdl.specs.declared.design.Design.{Design}
-use Rattle.lx_emit.specs.Puts.{IsPlainTarget}
-use Rattle.lx_emit.proofs.Statements.{tree_is}
+use Rattle.lx_emit.specs.Drives.{IsPlainTarget}
+use Rattle.lx_emit.proofs.Inside.{stmt_is}
 
 pub target_stands : (d : Design) (k : ℕ) (x y : Target) → Keeps d → slice_get d.targets k ≡ Some x → x ≡ y → TargetStands d y
 target_stands d k x y keeps e f = keeps.targets k y (e ∙ ap (λ (z : Target). Some z) f)
@@ -39,13 +38,7 @@ pub stmt_stands : (d : Design) (k : ℕ) (x y : Stmt) → Keeps d → slice_get 
 stmt_stands d k x y keeps e f = keeps.stmts k y (e ∙ ap (λ (z : Stmt). Some z) f)
 
 plain_node : (d : Design) (k : ℕ) (x y : Stmt) → Keeps d → IsPlain (stmt d k) → slice_get d.stmts k ≡ Some x → x ≡ y → IsPlain (node_stmt (term d) (target d) (stmt d) y)
-plain_node d k x y keeps p e f = subst (λ (s : circuit.Stmt). IsPlain s) (tree_is d k y keeps.stmts_lower (e ∙ ap (λ (z : Stmt). Some z) f)) p
-
-pub assign_plain : (d : Design) (k : ℕ) (x : Stmt) (t : TargetId) (value : ExprId) (line : ℕ) → Keeps d → IsPlain (stmt d k) → slice_get d.stmts k ≡ Some x → x ≡ node.Assign t value line → IsPlainTarget (target d t.place)
-assign_plain d k x t value line keeps p e f = let q = plain_node d k x (node.Assign t value line) keeps p e f in record { signal = q.signal; alone = q.alone }
-
-pub no_case : (d : Design) (k : ℕ) (x : Stmt) (on : ExprId) (arms : List Arm) (rest : List StmtId) (line : ℕ) → Keeps d → IsPlain (stmt d k) → slice_get d.stmts k ≡ Some x → x ≡ node.Case on arms rest line → ⊥
-no_case d k x on arms rest line keeps p e f = let q = plain_node d k x (node.Case on arms rest line) keeps p e f in let h : false ≡ true = q.alone in absurd (cc)
+plain_node d k x y keeps p e f = subst (λ (s : circuit.Stmt). IsPlain s) (stmt_is d k y keeps (e ∙ ap (λ (z : Stmt). Some z) f)) p
 
 plain_all : (x : ℕ) (b : circuit.Block) → are_for x b ≡ true → ArePlain b
 plain_all x circuit.Done h = tt
@@ -82,15 +75,3 @@ lone d k (x ∷ []) rest line p s b =
 pub lone_if : (d : Design) (k : ℕ) (x : Stmt) (branches : List Branch) (rest : List StmtId) (line : ℕ) → Keeps d → IsPlain (stmt d k) → slice_get d.stmts k ≡ Some x → IsTrue (stmt_below x k) → x ≡ node.If branches rest line → IsLoneIf d k branches rest
 lone_if d k x branches rest line keeps p e l f =
     lone d k branches rest line (plain_node d k x (node.If branches rest line) keeps p e f) (stmt_stands d k x (node.If branches rest line) keeps e f) (ap (λ (z : Stmt). stmt_below z k) (sym f) ∙ l)
-
--- ---- items of a list
-
-pub plain_at : (d : Design) (ids : List StmtId) (k : ℕ) (z : StmtId) → ArePlain (block d ids) → k < length ids → IsPlain (stmt d (get_or ids k z).place)
-plain_at d [] k z p h = absurd (omega arith)
-plain_at d (i ∷ is) zero z p h = p.0
-plain_at d (i ∷ is) (suc k) z p h = plain_at d is k z p.1 (omega arith)
-
-pub below_at : (n : ℕ) (ids : List StmtId) (k : ℕ) (z : StmtId) → IsTrue (all_stmts_below n ids) → k < length ids → (get_or ids k z).place < n
-below_at n [] k z p h = absurd (omega arith)
-below_at n (i ∷ is) zero z p h = ltb-true i.place n (both (nat_lt i.place n) (all_stmts_below n is) p).0
-below_at n (i ∷ is) (suc k) z p h = below_at n is k z (both (nat_lt i.place n) (all_stmts_below n is) p).1 (omega arith)

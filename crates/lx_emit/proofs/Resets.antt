@@ -1,10 +1,10 @@
 -- The blocks that drive signals, and their resets.
-use Rattle.std.proofs.Common.{◌≡◌, ℕ, zero, suc, ◌<◌, ◌^◌, true, false, List, [], ◌∷◌, ◌++◌, length, map, lt-ltb, refl, sym, ap, subst, ◌∙◌}
-use Rattle.std.specs.Prelude.{ℤ, Option, Some, None, slice_get, slice_index_or, IfSome}
+use Rattle.std.proofs.Common.{◌≡◌, ℕ, zero, suc, ◌<◌, ◌^◌, true, false, List, [], ◌∷◌, ◌++◌, length, lt-ltb, refl, sym, ap, subst, ◌∙◌}
+use Rattle.std.specs.Prelude.{ℤ, Option, Some, None, slice_get, IfSome}
 use Rattle.lx_arena.specs.Lower.{EachLower}
 use Rattle.lx_num.specs.declared.Shape.{Shape}
 use Rattle.lx_num.specs.Ints.{modulo}
-use Rattle.lx_circuit.specs.Circuit.{Made, nothing, made}
+use Rattle.lx_circuit.specs.Circuit.{Made, made}
 use Rattle.lx_vtext.specs.Tree as tree
 use Rattle.lx_vtext.specs.Tree.{Name}
 use Rattle.lx_vtree.specs.declared.nodes.Literal.{Literal}
@@ -18,7 +18,7 @@ use Rattle.lx_vtree.specs.Growth.{AddedStmt}
 use Rattle.lx_vtree.specs.Trees.{tree_at}
 use Rattle.lx_vtree.specs.Stmts.{StmtRef, plant_block, stmt_at, is_stmt_below, StmtsPlaced}
 use Rattle.lx_fhdl.specs.Below.{StmtId}
-use Rattle.lx_fhdl.specs.Designs.{made_of, circuit_of}
+use Rattle.lx_fhdl.specs.Designs.{circuit_of}
 use Rattle.lx_fhdl.specs.Keeping.{EachOf, HasResetPath, IsDomain, Keeps}
 use Rattle.lx_fhdl.specs.declared.exprs.SigId.{SigId}
 use Rattle.lx_fhdl.specs.declared.design.Signal.{Signal}
@@ -32,21 +32,13 @@ use Rattle.lx_emit.specs.Puts.{IsTarget, PutStmt, PutBlock, PutElse, PutStmts, t
 use Rattle.lx_emit.specs.Tables.{Put}
 use Rattle.lx_emit.specs.Resets.{reset_stmt, block_by}
 use Rattle.lx_emit.proofs.Operands.{place_within}
+use Rattle.lx_emit.proofs.Owners.{made_is}
 use Rattle.lx_emit.proofs.Grown.{before_end, end_after, block_of, texts_block, both_none, both_more, when_put, stmts_more}
 
 -- ---- resets
 
-made_same : (xs : List Signal) (k : ℕ) (s : Signal) → slice_get xs k ≡ Some s → slice_index_or (map made_of xs) k nothing ≡ made_of s
-made_same [] k s e = absurd (cc)
-made_same (x ∷ xs) zero s e = let p : x ≡ s = cc in ap made_of p
-made_same (x ∷ xs) (suc k) s e = made_same xs k s e
-
-made_at : (d : Design) (k : ℕ) (s : Signal) → slice_get d.signals k ≡ Some s → made (circuit_of d) k ≡ made_of s
-unfolding circuit_of
-made_at d k s e = made_same d.signals k s e
-
 pub reset_is : (d : Design) (k : ℕ) (s : Signal) → slice_get d.signals k ≡ Some s → tree.Literal s.shape.bits s.shape.signed (modulo s.reset (2 ^ s.shape.bits)) ≡ reset_text d k
-reset_is d k s e = ap (λ (m : Made). literal_text m.shape m.reset) (sym (made_at d k s e))
+reset_is d k s e = ap (λ (m : Made). literal_text m.shape m.reset) (sym (made_is d k s e))
 
 pub literal_same : (l : Literal) (s : Shape) (z : ℤ) → tree.Literal l.bits l.signed l.value ≡ literal_text s z → modules.literal_of l ≡ signals.literal_of s z
 literal_same l s z e =
@@ -60,14 +52,14 @@ less d names k None e = refl
 less d names k (Some r) e = rw e refl
 
 pub no_reset : (d : Design) (names : List Name) (k : ℕ) (s : Signal) (o : Option SigId) → slice_get d.signals k ≡ Some s → s.reset_less ≡ true → tree.EndBlock ≡ reset_block d names k o
-no_reset d names k s o e f = less d names k o (ap (λ (m : Made). m.reset_less) (made_at d k s e) ∙ f)
+no_reset d names k s o e f = less d names k o (ap (λ (m : Made). m.reset_less) (made_is d k s e) ∙ f)
 
 taken : (d : Design) (names : List Name) (k : ℕ) (o : Option SigId) → (made (circuit_of d) k).reset_less ≡ false → block_by d names k o ≡ reset_block d names k o
 taken d names k None e = refl
 taken d names k (Some r) e = rw e refl
 
 pub some_reset : (d : Design) (names : List Name) (k : ℕ) (s : Signal) (n : ℕ) (x : Domain) → slice_get d.signals k ≡ Some s → s.reset_less ≡ false → slice_get d.domains n ≡ Some x → block_by d names k x.reset ≡ reset_block d names k (domain_reset (slice_get d.domains n))
-some_reset d names k s n x e f g = taken d names k x.reset (ap (λ (m : Made). m.reset_less) (made_at d k s e) ∙ f) ∙ ap (λ (o : Option Domain). reset_block d names k (domain_reset o)) (sym g)
+some_reset d names k s n x e f g = taken d names k x.reset (ap (λ (m : Made). m.reset_less) (made_is d k s e) ∙ f) ∙ ap (λ (o : Option Domain). reset_block d names k (domain_reset o)) (sym g)
 
 pub each_of : {T : Type 0} (P : T → Type 0) (xs : List T) (k : ℕ) (x : T) → EachOf P xs → slice_get xs k ≡ Some x → P x
 each_of P [] k x h e = absurd (cc)

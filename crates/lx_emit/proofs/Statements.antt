@@ -1,17 +1,13 @@
--- Statements of a design: their trees and their texts, from those of the statements inside.
+-- The texts of a design's statements, from those of the statements inside.
 use Rattle.std.proofs.Common.{◌≡◌, ℕ, zero, suc, ◌<◌, Bool, true, List, [], ◌∷◌, refl, sym, ap, ◌∙◌, arith, ltb-true}
 use Rattle.std.specs.Prelude.{Option, Some, None, slice_get, IsTrue, IfSome}
 use Rattle.lx_arena.specs.Lower.{EachLower}
-use Rattle.lx_circuit.specs.Terms.{Term}
-use Rattle.lx_circuit.specs.Statements as circuit
 use Rattle.lx_vtext.specs.Tree as tree
 use Rattle.lx_vtext.specs.Tree.{Name}
 use Rattle.lx_vtree.proofs.Exprs.{both}
-use Rattle.lx_fhdl.specs.Below.{StmtId, all_stmts_below, all_branches_below, all_arms_below, stmt_below}
-use Rattle.lx_fhdl.specs.Designs.{term, target, stmt}
-use Rattle.lx_fhdl.specs.Stmts.{block_at, branches_at, arms_at, node_stmt, stmt_of, stmt_within, stmt_at}
+use Rattle.lx_fhdl.specs.Below.{StmtId, all_stmts_below, all_branches_below, stmt_below}
+use Rattle.lx_fhdl.specs.Designs.{target}
 use Rattle.lx_fhdl.specs.declared.stmts.Branch.{Branch}
-use Rattle.lx_fhdl.specs.declared.stmts.Arm.{Arm}
 use Rattle.lx_fhdl.specs.declared.stmts.Stmt.{Stmt}
 use Rattle.lx_fhdl.specs.declared.stmts.Stmt.TheVariants as node
 use Rattle.lx_fhdl.specs.declared.design.Design.{Design}
@@ -21,40 +17,6 @@ use Rattle.lx_emission.specs.Texts.{block_onto, else_text, if_text, stmt_text_of
 -- the same below n
 abbrev Same : {T : Type 0} → (ℕ → T) → (ℕ → T) → ℕ → Type 0
 Same f g n = (k : ℕ) → k < n → f k ≡ g k
-
--- ---- trees
-
-block_same : (f g : ℕ → circuit.Stmt) (n : ℕ) (ids : List StmtId) → Same f g n → all_stmts_below n ids ≡ true → block_at f ids ≡ block_at g ids
-block_same f g n [] s h = refl
-block_same f g n (i ∷ is) s h = let p = both _ _ h in rw (s i.place (ltb-true i.place n p.0), block_same f g n is s p.1) refl
-
-branches_same : (t : ℕ → Term) (f g : ℕ → circuit.Stmt) (n : ℕ) (bs : List Branch) → Same f g n → all_branches_below n bs ≡ true → branches_at t f bs ≡ branches_at t g bs
-branches_same t f g n [] s h = refl
-branches_same t f g n (b ∷ bs) s h = let p = both _ _ h in rw (block_same f g n b.body s p.0, branches_same t f g n bs s p.1) refl
-
-arms_same : (f g : ℕ → circuit.Stmt) (n : ℕ) (xs : List Arm) → Same f g n → all_arms_below n xs ≡ true → arms_at f xs ≡ arms_at g xs
-arms_same f g n [] s h = refl
-arms_same f g n (x ∷ xs) s h = let p = both _ _ h in rw (block_same f g n x.body s p.0, arms_same f g n xs s p.1) refl
-
-stmt_same : (t : ℕ → Term) (r : ℕ → circuit.Target) (f g : ℕ → circuit.Stmt) (n : ℕ) (o : Option Stmt) → Same f g n → IfSome o (λ x. IsTrue (stmt_below x n)) → stmt_of t r f o ≡ stmt_of t r g o
-stmt_same t r f g n None s h = refl
-stmt_same t r f g n (Some (node.Assign target value line)) s h = refl
-stmt_same t r f g n (Some (node.If branches rest line)) s h = let p = both _ _ h in rw (branches_same t f g n branches s p.0, block_same f g n rest s p.1) refl
-stmt_same t r f g n (Some (node.Case on arms rest line)) s h = let p = both _ _ h in rw (arms_same f g n arms s p.0, block_same f g n rest s p.1) refl
-
-deeper : (t : ℕ → Term) (r : ℕ → circuit.Target) (xs : List Stmt) → EachLower stmt_below xs → (n m k : ℕ) → k < n → k < m → stmt_within t r xs n k ≡ stmt_within t r xs m k
-unfolding stmt_within
-deeper t r xs low zero m k p q = absurd (omega arith)
-deeper t r xs low (suc n) zero k p q = absurd (omega arith)
-deeper t r xs low (suc n) (suc m) k p q = stmt_same t r (stmt_within t r xs n) (stmt_within t r xs m) k (slice_get xs k) (λ j l. deeper t r xs low n m j (omega arith) (omega arith)) (low k)
-
-pub tree_is : (d : Design) (k : ℕ) (x : Stmt) → EachLower stmt_below d.stmts → slice_get d.stmts k ≡ Some x → stmt d k ≡ node_stmt (term d) (target d) (stmt d) x
-unfolding stmt_at stmt_within
-tree_is d k x low e =
-    stmt_same (term d) (target d) (stmt_within (term d) (target d) d.stmts k) (stmt d) k (slice_get d.stmts k) (λ j l. deeper (term d) (target d) d.stmts low k (suc j) j l (omega arith)) (low k)
-    ∙ ap (stmt_of (term d) (target d) (stmt d)) e
-
--- ---- texts
 
 onto_same : (f g : ℕ → tree.VStmt) (n : ℕ) (ids : List StmtId) (end : tree.VBlock) → Same f g n → all_stmts_below n ids ≡ true → block_onto f ids end ≡ block_onto g ids end
 onto_same f g n [] end s h = refl

@@ -1,6 +1,5 @@
 -- Statements that are put into arenas.
-use Rattle.std.specs.Prelude.{◌≡◌, ℕ, ◌<◌, ◌≤◌, List, ◌++◌, length, map, IsTrue}
-use Rattle.lx_circuit.specs.Statements as circuit
+use Rattle.std.specs.Prelude.{◌≡◌, ℕ, ◌<◌, ◌≤◌, List, Option, ◌++◌, length, map, IsTrue}
 use Rattle.lx_vtext.specs.Tree as tree
 use Rattle.lx_vtree.specs.declared.nodes.VExpr.{VExpr}
 use Rattle.lx_vtree.specs.declared.nodes.VStmt.{VStmt}
@@ -8,14 +7,7 @@ use Rattle.lx_vtree.specs.declared.nodes.VTarget.{VTarget}
 use Rattle.lx_vtree.specs.Trees.{tree_at}
 use Rattle.lx_vtree.specs.Stmts.{StmtRef, plant_target, plant_block, plant_else, stmt_at, are_stmts_below, is_else_below, is_target_placed, StmtsPlaced}
 use Rattle.lx_vtree.specs.Growth.{Grows}
-use Rattle.std.specs.Prelude.{Option}
 use Rattle.lx_fhdl.specs.Below.{StmtId}
-use Rattle.lx_fhdl.specs.Lowered.{is_plain_target}
-
--- the whole of a signal, or some of its bits
-pub record IsPlainTarget (t : circuit.Target) : Type 0 where
-  pub signal : ℕ
-  pub alone : IsTrue (is_plain_target signal t)
 
 -- a target that names no expression
 pub record IsTarget (t : VTarget) (u : tree.VTarget) : Type 0 where

@@ -9,7 +9,8 @@ ghost use Rattle.lx_fhdl.specs.Lowered.{IsPlain, ArePlain};
 ghost use Rattle.lx_emission.specs.Nodes.{operand};
 ghost use Rattle.lx_emission.specs.Texts.{covers, target_text, stmt_text, block_onto, else_text};
 ghost use Rattle.lx_emit.specs.Tables.{IsSheet};
-ghost use Rattle.lx_emit.specs.Puts.{IsPlainTarget, IsTarget, PutStmt, PutBlock, PutElse, PutStmts, texts_of};
+ghost use Rattle.lx_emit.specs.Drives.{IsPlainTarget};
+ghost use Rattle.lx_emit.specs.Puts.{IsTarget, PutStmt, PutBlock, PutElse, PutStmts, texts_of};
 
 use crate::exprs::put_operand;
 use crate::tables::{Sheet, net_name, shape_of_signal};

@@ -1,6 +1,8 @@
 use Rattle.std.proofs.Common.{◌∙◌, ◌<◌, Some, length, sym, ap, arith}
 use Rattle.lx_fhdl.specs.Below.{StmtId}
-use Rattle.lx_emit.proofs.Parted.{stmt_stands, assign_plain, no_case, lone_if, plain_at, below_at}
+use Rattle.lx_emit.proofs.Inside.{plain_assign, no_case}
+use Rattle.lx_emit.proofs.Owners.{there_at, plain_at}
+use Rattle.lx_emit.proofs.Parted.{stmt_stands, lone_if}
 use Rattle.lx_emit.proofs.Statements.{text_is, first_is, if_is}
 use Rattle.lx_emit.proofs.Puts.{if_ok, if_both}
 use Rattle.lx_emit.proofs.Grown.{put_stmt_ok, parts_below, when_put, stmts_more, texts_more, block_put}
@@ -16,7 +18,7 @@ pub put_stmt-put_assign-requires-clause-value : goal.put_stmt-put_assign-require
 put_stmt-put_assign-requires-clause-value t c = (stmt_stands _ _ _ _ c.requires.sheet.keeps c.get.ensures.item c.in-Assign.is).1
 
 pub put_stmt-put_assign-requires-clause-plain : goal.put_stmt-put_assign-requires-clause-plain
-put_stmt-put_assign-requires-clause-plain t c = assign_plain _ _ _ _ _ _ c.requires.sheet.keeps c.requires.plain c.get.ensures.item c.in-Assign.is
+put_stmt-put_assign-requires-clause-plain t c = plain_assign _ _ _ _ _ c.requires.sheet.keeps (c.get.ensures.item ∙ ap Some c.in-Assign.is) c.requires.plain
 
 pub put_stmt-at-branch-requires : goal.put_stmt-at-branch-requires
 put_stmt-at-branch-requires t c =
@@ -30,7 +32,7 @@ put_stmt-put_when-requires t c =
     (omega arith, (c.requires.sheet, (c.requires.placed, (omega arith, (rw one parts.cond, (rw one parts.body, (rw c.as_slice-rest.ensures parts.below, (rw one parts.plain_body, rw c.as_slice-rest.ensures parts.plain_rest))))))))
 
 pub put_stmt-unreachable-requires : goal.put_stmt-unreachable-requires
-put_stmt-unreachable-requires t c = no_case _ _ _ _ _ _ _ c.requires.sheet.keeps c.requires.plain c.get.ensures.item c.in-Case.is
+put_stmt-unreachable-requires t c = no_case _ _ _ _ _ _ c.requires.sheet.keeps (c.get.ensures.item ∙ ap Some c.in-Case.is) c.requires.plain
 
 pub put_stmt-returns-in-Assign : goal.put_stmt-returns-in-Assign
 put_stmt-returns-in-Assign t c = put_stmt_ok _ _ _ _ _ _ _ (sym (text_is _ _ _ _ _ c.requires.sheet.keeps.stmts_lower (c.get.ensures.item ∙ ap Some c.in-Assign.is))) c.put_assign.ensures
@@ -45,7 +47,7 @@ pub put_stmts-put_stmt-requires : goal.put_stmts-put_stmt-requires
 put_stmts-put_stmt-requires t c =
     let z : StmtId = record { place = 0; of = record {} } in
     let h : c.loop-id.id-index < length c.args.ids.now = omega arith in
-    let l = below_at c.args.bound c.args.ids.now c.loop-id.id-index z c.requires.below h in
+    let l = there_at c.args.bound c.args.ids.now c.loop-id.id-index z c.requires.below h in
     let p = plain_at c.args.sheet.now.design.now c.args.ids.now c.loop-id.id-index z c.requires.plain h in
     (omega (arith, l), (c.requires.sheet, (c.loop-id.invariant.grows.placed, (omega (arith, l), p))))
 
