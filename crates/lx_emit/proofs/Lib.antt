@@ -1,0 +1,17 @@
+pub mod Assigned
+pub mod Blocked
+pub mod Counted
+pub mod Driven
+pub mod Emitted
+pub mod Grown
+pub mod Inside
+pub mod Lines
+pub mod Operands
+pub mod Owners
+pub mod Parted
+pub mod Plain
+pub mod Puts
+pub mod Resets
+pub mod Shaped
+pub mod Statements
+pub mod Written

@@ -1,0 +1,48 @@
+-- The parts of the module of a design.
+use Rattle.std.proofs.Common.{◌≡◌, List, [], ◌++◌, map, flat_map, sym, ap, subst}
+use Rattle.lx_vtext.specs.Fits.{IsModule}
+use Rattle.lx_vtext.specs.Tree.{Name, VAssign, VAlways}
+use Rattle.lx_vtree.specs.declared.nodes.VExpr.{VExpr}
+use Rattle.lx_vtree.specs.declared.nodes.VStmt.{VStmt}
+use Rattle.lx_vtree.specs.declared.modules.Port.{Port}
+use Rattle.lx_vtree.specs.declared.modules.Decl.{Decl}
+use Rattle.lx_vtree.specs.declared.modules.Initial.{Initial}
+use Rattle.lx_vtree.specs.declared.modules.Assign.{Assign}
+use Rattle.lx_vtree.specs.declared.modules.Always.{Always}
+use Rattle.lx_vtree.specs.declared.modules.Parts.{Parts}
+use Rattle.lx_vtree.specs.Modules.{sets_of, port_of, decl_of, HaveText, module_of}
+use Rattle.lx_fhdl.specs.declared.design.Design.{Design}
+use Rattle.lx_emission.specs.Emission.{ports_of, decls_of, node_assign, places_from, emitted}
+use Rattle.lx_emission.specs.Signals.{signal_assign, signal_always}
+use Rattle.lx_emission.specs.Emits.{CanBeEmitted, Emits}
+use Rattle.lx_emission.proofs.Law.{emits}
+use Rattle.lx_emit.specs.Lines.{PutAssigns, PutAlways}
+use Rattle.lx_emit.specs.Whole.{ArePartsOf}
+use Rattle.lx_emit.proofs.Assigned.{assigns_stay}
+
+abbrev assigns_of : Design → List Name → List VAssign
+assigns_of d names = flat_map (node_assign d names) (places_from 0 d.exprs) ++ flat_map (signal_assign d names) (places_from 0 d.signals)
+
+abbrev always_of : Design → List Name → List VAlways
+always_of d names = flat_map (signal_always d names) (places_from 0 d.signals)
+
+-- the lists and arenas that were made one after the other
+pub parts_are : (d : Design) (names : List Name) (e0 e1 e2 : List VExpr) (s0 s2 : List VStmt) (ports : List Port) (decls : List Decl) (inits : List Initial) (assigns : List Assign) (always : List Always)
+    → map port_of ports ≡ ports_of d names → map decl_of decls ≡ decls_of d names → inits ≡ [] → PutAssigns e0 e1 [] assigns (assigns_of d names) → PutAlways e1 e2 s0 s2 [] always (always_of d names)
+    → ArePartsOf d names (record { exprs = e2; stmts = s2; ports = ports; decls = decls; inits = inits; assigns = assigns; always = always })
+unfolding module_of emitted
+parts_are d names e0 e1 e2 s0 s2 ports decls inits assigns always p q n a b =
+    let kept = assigns_stay e0 e1 e2 [] assigns (assigns_of d names) a b.grows.exprs in
+    let none = ap (map sets_of) n in
+    record {
+      placed = record { stmts = b.grows.placed; assigns = kept.placed; always = b.placed };
+      tree = λ i. record { ports = p i; decls = q i; inits = none i; assigns = kept.trees i; always = b.trees i };
+    }
+
+-- have a text
+pub have_text : (d : Design) (names : List Name) (p : Parts) → CanBeEmitted d names → ArePartsOf d names p → HaveText p
+have_text d names p can h = record { placed = h.placed; fits = subst IsModule (sym h.tree) (emits d names can).lawful }
+
+-- and are a module that does what the design means
+pub parts_emit : (d : Design) (names : List Name) (p : Parts) → CanBeEmitted d names → ArePartsOf d names p → Emits d names (module_of p)
+parts_emit d names p can h = subst (Emits d names) (sym h.tree) (emits d names can)

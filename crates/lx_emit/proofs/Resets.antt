@@ -1,0 +1,134 @@
+-- The blocks that drive signals, and their resets.
+use Rattle.std.proofs.Common.{◌≡◌, ℕ, zero, suc, ◌<◌, ◌^◌, true, false, List, [], ◌∷◌, ◌++◌, length, lt-ltb, refl, sym, ap, subst, ◌∙◌}
+use Rattle.std.specs.Prelude.{ℤ, Option, Some, None, slice_get, IfSome}
+use Rattle.lx_arena.specs.Lower.{EachLower}
+use Rattle.lx_num.specs.declared.Shape.{Shape}
+use Rattle.lx_num.specs.Ints.{modulo}
+use Rattle.lx_circuit.specs.Circuit.{Made, made}
+use Rattle.lx_vtext.specs.Tree as tree
+use Rattle.lx_vtext.specs.Tree.{Name}
+use Rattle.lx_vtree.specs.declared.nodes.Literal.{Literal}
+use Rattle.lx_vtree.specs.declared.nodes.VExpr.{VExpr}
+use Rattle.lx_vtree.specs.declared.nodes.VStmt.{VStmt}
+use Rattle.lx_vtree.specs.declared.nodes.VStmt.TheVariants as node
+use Rattle.lx_vtree.specs.declared.nodes.VTarget.TheVariants as target
+use Rattle.lx_vtree.specs.Modules as modules
+use Rattle.lx_vtree.specs.Below.{Ref}
+use Rattle.lx_vtree.specs.Growth.{AddedStmt}
+use Rattle.lx_vtree.specs.Trees.{tree_at}
+use Rattle.lx_vtree.specs.Stmts.{StmtRef, plant_block, stmt_at, is_stmt_below, StmtsPlaced}
+use Rattle.lx_fhdl.specs.Below.{StmtId}
+use Rattle.lx_fhdl.specs.Designs.{circuit_of}
+use Rattle.lx_fhdl.specs.Keeping.{EachOf, HasResetPath, IsDomain, Keeps}
+use Rattle.lx_fhdl.specs.declared.exprs.SigId.{SigId}
+use Rattle.lx_fhdl.specs.declared.design.Signal.{Signal}
+use Rattle.lx_fhdl.specs.declared.design.Domain.{Domain}
+use Rattle.lx_fhdl.specs.declared.design.Design.{Design}
+use Rattle.lx_emission.specs.Naming.{net}
+use Rattle.lx_emission.specs.Signals as signals
+use Rattle.lx_emission.specs.Signals.{literal_text, reset_text, reset_block, domain_reset}
+use Rattle.lx_emission.specs.Texts.{block_onto}
+use Rattle.lx_emit.specs.Puts.{IsTarget, PutStmt, PutBlock, PutElse, PutStmts, trees_of, texts_of}
+use Rattle.lx_emit.specs.Tables.{Put}
+use Rattle.lx_emit.specs.Resets.{reset_stmt, block_by}
+use Rattle.lx_emit.proofs.Operands.{place_within}
+use Rattle.lx_emit.proofs.Owners.{made_is}
+use Rattle.lx_emit.proofs.Grown.{before_end, end_after, block_of, texts_block, both_none, both_more, when_put, stmts_more}
+
+-- ---- resets
+
+pub reset_is : (d : Design) (k : ℕ) (s : Signal) → slice_get d.signals k ≡ Some s → tree.Literal s.shape.bits s.shape.signed (modulo s.reset (2 ^ s.shape.bits)) ≡ reset_text d k
+reset_is d k s e = ap (λ (m : Made). literal_text m.shape m.reset) (sym (made_is d k s e))
+
+pub literal_same : (l : Literal) (s : Shape) (z : ℤ) → tree.Literal l.bits l.signed l.value ≡ literal_text s z → modules.literal_of l ≡ signals.literal_of s z
+literal_same l s z e =
+    let a : l.bits ≡ s.bits = cc in
+    let b : l.signed ≡ s.signed = cc in
+    let v : l.value ≡ modulo z (2 ^ s.bits) = cc in
+    λ i. record { bits = a i; signed = b i; value = v i }
+
+less : (d : Design) (names : List Name) (k : ℕ) (o : Option SigId) → (made (circuit_of d) k).reset_less ≡ true → tree.EndBlock ≡ reset_block d names k o
+less d names k None e = refl
+less d names k (Some r) e = rw e refl
+
+pub no_reset : (d : Design) (names : List Name) (k : ℕ) (s : Signal) (o : Option SigId) → slice_get d.signals k ≡ Some s → s.reset_less ≡ true → tree.EndBlock ≡ reset_block d names k o
+no_reset d names k s o e f = less d names k o (ap (λ (m : Made). m.reset_less) (made_is d k s e) ∙ f)
+
+taken : (d : Design) (names : List Name) (k : ℕ) (o : Option SigId) → (made (circuit_of d) k).reset_less ≡ false → block_by d names k o ≡ reset_block d names k o
+taken d names k None e = refl
+taken d names k (Some r) e = rw e refl
+
+pub some_reset : (d : Design) (names : List Name) (k : ℕ) (s : Signal) (n : ℕ) (x : Domain) → slice_get d.signals k ≡ Some s → s.reset_less ≡ false → slice_get d.domains n ≡ Some x → block_by d names k x.reset ≡ reset_block d names k (domain_reset (slice_get d.domains n))
+some_reset d names k s n x e f g = taken d names k x.reset (ap (λ (m : Made). m.reset_less) (made_is d k s e) ∙ f) ∙ ap (λ (o : Option Domain). reset_block d names k (domain_reset o)) (sym g)
+
+pub each_of : {T : Type 0} (P : T → Type 0) (xs : List T) (k : ℕ) (x : T) → EachOf P xs → slice_get xs k ≡ Some x → P x
+each_of P [] k x h e = absurd (cc)
+each_of P (y ∷ ys) zero x h e = let p : y ≡ x = cc in subst P p h.0
+each_of P (y ∷ ys) (suc k) x h e = each_of P ys k x h.1 e
+
+path_there : (xs : List Signal) (x : Domain) (k : ℕ) (o : Option Signal) → slice_get xs k ≡ o → HasResetPath x o → k < length xs
+path_there xs x k None e h = absurd h
+path_there xs x k (Some s) e h = place_within xs k s e
+
+resets_there : (xs : List Signal) (x : Domain) (o : Option SigId) → IfSome o (λ r. HasResetPath x (slice_get xs r.0)) → IfSome o (λ r. r.0 < length xs)
+resets_there xs x None h = tt
+resets_there xs x (Some r) h = path_there xs x r.0 (slice_get xs r.0) refl h
+
+pub reset_there : (d : Design) (n : ℕ) (x : Domain) → Keeps d → slice_get d.domains n ≡ Some x → IfSome x.reset (λ r. r.0 < length d.signals)
+reset_there d n x keeps e = resets_there d.signals x x.reset (each_of (IsDomain d) d.domains n x keeps.domains e).reset
+
+-- ---- targets and blocks
+
+pub whole_is : (n m : Name) → n ≡ m → IsTarget (target.Whole n) (tree.Whole m)
+whole_is n m e = record { tree = λ f. ap tree.Whole e; placed = λ k. refl }
+
+-- a list that began empty
+pub stmts_block : (e0 e1 : List VExpr) (s0 s1 : List VStmt) (before after : List StmtRef) (ts : List tree.VStmt) → before ≡ [] → PutStmts e0 e1 s0 s1 before after ts → PutBlock e0 e1 s0 s1 after (before_end ts tree.EndBlock)
+stmts_block e0 e1 s0 s1 before after ts e p = record {
+  grows = p.grows;
+  within = p.within;
+  tree =
+      block_of (stmt_at (tree_at e1) s1) after
+      ∙ ap (λ (us : List tree.VStmt). before_end us tree.EndBlock) (p.trees ∙ ap (λ (is : List StmtRef). trees_of (stmt_at (tree_at e0) s0) is ++ ts) e);
+}
+
+pub combined_put : (e0 e1 e2 : List VExpr) (s0 s1 s2 : List VStmt) (first : StmtRef) (before after : List StmtRef) (t : tree.VStmt) (g : ℕ → tree.VStmt) (ids : List StmtId)
+    → PutStmt e0 e1 s0 s1 first.place t → before ≡ first ∷ [] → PutStmts e1 e2 s1 s2 before after (texts_of g ids) → PutBlock e0 e2 s0 s2 after (tree.InBlock t (block_onto g ids tree.EndBlock))
+combined_put e0 e1 e2 s0 s1 s2 first before after t g ids p e q = record {
+  grows = both_more e0 e1 e2 s0 s1 s2 p.grows q.grows;
+  within = q.within;
+  tree =
+      block_of (stmt_at (tree_at e2) s2) after
+      ∙ ap (λ (us : List tree.VStmt). before_end us tree.EndBlock) (q.trees ∙ ap (λ (is : List StmtRef). trees_of (stmt_at (tree_at e1) s1) is ++ texts_of g ids) e)
+      ∙ ap (λ (u : tree.VStmt). tree.InBlock u (before_end (texts_of g ids) tree.EndBlock)) p.tree
+      ∙ ap (tree.InBlock t) (texts_block g ids tree.EndBlock);
+}
+
+pub clocked_put : (e0 e1 : List VExpr) (s0 s1 : List VStmt) (before after : List StmtRef) (g : ℕ → tree.VStmt) (ids : List StmtId) (end : tree.VBlock)
+    → before ≡ [] → PutStmts e0 e1 s0 s1 before after (texts_of g ids) → tree.EndBlock ≡ end → PutBlock e0 e1 s0 s1 after (block_onto g ids end)
+clocked_put e0 e1 s0 s1 before after g ids end e p f =
+    subst (λ (b : tree.VBlock). PutBlock e0 e1 s0 s1 after b) (texts_block g ids tree.EndBlock ∙ ap (block_onto g ids) f) (stmts_block e0 e1 s0 s1 before after (texts_of g ids) e p)
+
+pub reset_put : (e0 e1 e2 : List VExpr) (s0 s1 s2 : List VStmt) (before between : List StmtRef) (last : StmtRef) (g : ℕ → tree.VStmt) (ids : List StmtId) (t : tree.VStmt) (end : tree.VBlock)
+    → before ≡ [] → PutStmts e0 e1 s0 s1 before between (texts_of g ids) → PutStmt e1 e2 s1 s2 last.place t → tree.InBlock t tree.EndBlock ≡ end → PutBlock e0 e2 s0 s2 (between ++ last ∷ []) (block_onto g ids end)
+reset_put e0 e1 e2 s0 s1 s2 before between last g ids t end e p q f =
+    subst (λ (b : tree.VBlock). PutBlock e0 e2 s0 s2 (between ++ last ∷ []) b)
+    (end_after (texts_of g ids) (t ∷ []) tree.EndBlock ∙ texts_block g ids (tree.InBlock t tree.EndBlock) ∙ ap (block_onto g ids) f)
+    (stmts_block e0 e2 s0 s2 before (between ++ last ∷ []) (texts_of g ids ++ t ∷ []) e (stmts_more e0 e1 e2 s0 s1 s2 before between (texts_of g ids) last t p q))
+
+lone_block : (e0 e1 : List VExpr) (s0 s1 : List VStmt) (i : StmtRef) (ids : List StmtRef) (t : tree.VStmt) → PutStmt e0 e1 s0 s1 i.place t → ids ≡ i ∷ [] → PutBlock e0 e1 s0 s1 ids (tree.InBlock t tree.EndBlock)
+lone_block e0 e1 s0 s1 i ids t p e = record {
+  grows = p.grows;
+  within = rw (e, lt-ltb i.place (length s1) p.within) refl;
+  tree = ap (plant_block (stmt_at (tree_at e1) s1)) e ∙ ap (λ (u : tree.VStmt). tree.InBlock u tree.EndBlock) p.tree;
+}
+
+-- the signal takes its reset value where the reset is high
+pub reset_stmt_put : (e0 e1 e2 : List VExpr) (s0 s1 s2 : List VStmt) (assign : StmtRef) (so : List StmtRef) (c : Ref) (i : ℕ) (d : Design) (names : List Name) (x : ℕ) (r : SigId) (n : Name)
+    → PutStmt e0 e1 s0 s1 assign.place (tree.Assign (tree.Whole (net names x)) false (reset_text d x)) → so ≡ assign ∷ [] → n ≡ net names r.0 → EachLower is_stmt_below s1 → Put e1 e2 c.place (tree.Net n)
+    → AddedStmt (tree_at e2) s1 s2 i (node.When c so None) → StmtsPlaced (length e2) s2 → PutStmt e0 e2 s0 s2 i (reset_stmt d names x r)
+reset_stmt_put e0 e1 e2 s0 s1 s2 assign so c i d names x r n p e f low put a placed =
+    let body = lone_block e0 e1 s0 s1 assign so (tree.Assign (tree.Whole (net names x)) false (reset_text d x)) p e in
+    let none : PutElse e1 e1 s1 s1 None tree.NoElse = record { grows = both_none e1 s1 p.grows.placed; within = refl; tree = refl } in
+    let condition = subst (λ (m : Name). Put e1 e2 c.place (tree.Net m)) f put in
+    when_put e0 e1 e1 e2 s0 s1 s1 s2 so None c (tree.InBlock (tree.Assign (tree.Whole (net names x)) false (reset_text d x)) tree.EndBlock) tree.NoElse (tree.Net (net names r.0)) i body none low condition a placed

@@ -1,0 +1,7 @@
+use Rattle.lx_emission.specs.Emission.{node_assign}
+use Rattle.lx_emit.specs.Lines.{PutAssigns}
+use Rattle.lx_emit.proofs.Lines.{pieces}
+use Rattle.lx_emit.proofs.assigns.put_nodes.Given as goal
+
+abbrev pub invariant-loop-place : goal.invariant-loop-place
+invariant-loop-place l = PutAssigns l.initial.exprs l.exprs l.initial.assigns l.assigns (pieces (node_assign l.sheet.design.now l.sheet.names.now) l.sheet.design.now.exprs l.place)

@@ -1,0 +1,8 @@
+use Rattle.std.proofs.Common.{drop}
+use Rattle.lx_vtext.specs.Tree as tree
+use Rattle.lx_emission.specs.Nodes.{operand, parts_onto}
+use Rattle.lx_emit.specs.Tables.{PutParts}
+use Rattle.lx_emit.proofs.exprs.put_parts.Given as goal
+
+abbrev pub invariant-loop-place : goal.invariant-loop-place
+invariant-loop-place l = PutParts l.initial.out l.out l.texts (parts_onto (operand l.sheet.design.now l.sheet.names.now) (drop l.place l.parts) tree.NoMore)

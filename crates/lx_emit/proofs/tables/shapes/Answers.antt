@@ -1,0 +1,17 @@
+use Rattle.std.proofs.Common.{arith}
+use Rattle.lx_emit.proofs.Counted.{item_there}
+use Rattle.lx_emit.proofs.Shaped.{shapes_none, next_sound, shapes_more}
+use Rattle.lx_emit.proofs.tables.shapes.Goals as goal
+
+pub loop-node-init : goal.loop-node-init
+loop-node-init c = (c.as_slice-node-items.ensures, rw c.new-shapes.ensures (shapes_none _))
+
+pub sound_shape-shape-requires-clause-sound : goal.sound_shape-shape-requires-clause-sound
+sound_shape-shape-requires-clause-sound c =
+    let there = item_there _ _ _ _ c.loop-node.invariant.0 (omega arith) c.node-item.is in
+    rw c.as_slice.ensures (next_sound _ _ _ _ c.requires c.loop-node.invariant.1 there)
+
+pub loop-node-preserved : goal.loop-node-preserved
+loop-node-preserved c =
+    let there = item_there _ _ _ _ c.loop-node.invariant.0 (omega arith) c.node-item.is in
+    (c.loop-node.invariant.0, rw c.in_ok-push.ensures.ok (shapes_more _ _ _ _ _ c.requires c.loop-node.invariant.1 there (rw (c.as_slice.ensures, c.as_slice-in-loop-node.ensures) at c.sound_shape-shape.ensures)))

@@ -1,0 +1,160 @@
+//! The blocks that drive signals (IEEE 1364-2005, "Structured procedures").
+
+ghost use Rattle.std.specs.Prelude.{◌≡◌, ◌<◌, ◌≤◌, true, false, length, slice_get, IfOk, IsTrue, IfSome};
+ghost use Rattle.lx_vtext.specs.Tree as tree;
+ghost use Rattle.lx_vtree.specs.Modules as modules;
+ghost use Rattle.lx_vtree.specs.Stmts.{StmtsPlaced};
+ghost use Rattle.lx_fhdl.specs.Below.{all_stmts_below};
+ghost use Rattle.lx_fhdl.specs.Designs as designs;
+ghost use Rattle.lx_fhdl.specs.Lowered.{ArePlain};
+ghost use Rattle.lx_emission.specs.Naming.{net};
+ghost use Rattle.lx_emission.specs.Signals as signals;
+ghost use Rattle.lx_emission.specs.Signals.{reset_text, reset_block, domain_reset, combined_body, clocked_body};
+ghost use Rattle.lx_emit.specs.Puts.{PutBlock, PutStmt};
+ghost use Rattle.lx_emit.specs.Resets.{block_by, reset_stmt};
+ghost use Rattle.lx_emit.specs.Tables.{IsSheet, Put};
+
+use crate::exprs::{constant, put_literal, put_net};
+use crate::stmts::put_stmts;
+use crate::tables::{Sheet, net_name};
+use lx_arena::Arena;
+use lx_fhdl::{SigId, StmtId};
+use lx_text::{List, NoMemory};
+use lx_vtree::{ExprId as VExprId, Literal, StmtId as VStmtId, VExpr, VStmt, VTarget, add_stmt};
+use std::alloc::Global;
+
+/// The reset value of a signal, as a literal of its shape.
+pub fn reset_literal(sheet: &Sheet, x: SigId) -> Literal
+    requires sheet { IsSheet sheet.now }
+    requires signal { x.0 < length sheet.now.design.now.signals }
+    ensures text { tree.Literal result.bits result.signed result.value ≡ reset_text sheet.now.design.now x.0 }
+    ensures value { modules.literal_of result ≡ signals.literal_of (signals.shape_of_signal sheet.now.design.now x.0) (signals.reset_of_signal sheet.now.design.now x.0) }
+{
+    let signal = sheet.design.signals.at(x.0);
+    constant(signal.reset, signal.shape.bits as u32, signal.shape.signed)
+}
+
+/// Adds the reset value of a signal.
+pub fn put_reset(exprs: &mut Arena<VExpr>, sheet: &Sheet, x: SigId) -> Result<VExprId, NoMemory>
+    requires sheet { IsSheet sheet.now }
+    requires signal { x.0 < length sheet.now.design.now.signals }
+    ensures { IfOk result (λ i. Put exprs.old exprs.new i.place (reset_text sheet.now.design.now x.0)) }
+{
+    let literal = reset_literal(sheet, x);
+    put_literal(exprs, literal)
+}
+
+// The assignment of its reset value to a signal.
+fn put_reset_assign(
+    alloc: Global,
+    exprs: &mut Arena<VExpr>,
+    stmts: &mut Arena<VStmt>,
+    sheet: &Sheet,
+    x: SigId,
+    at_once: bool,
+) -> Result<VStmtId, NoMemory>
+    requires sheet { IsSheet sheet.now }
+    requires placed { StmtsPlaced (length exprs.old) stmts.old }
+    requires signal { x.0 < length sheet.now.design.now.signals }
+    ensures { IfOk result (λ i. PutStmt exprs.old exprs.new stmts.old stmts.new i.place (tree.Assign (tree.Whole (net sheet.now.names.now x.0)) at_once (reset_text sheet.now.design.now x.0))) }
+{
+    stmts.lower();
+    let target = VTarget::Whole(net_name(alloc, sheet, x)?);
+    let value = put_reset(exprs, sheet, x)?;
+    let node = VStmt::Assign {
+        target,
+        at_once,
+        value,
+    };
+    add_stmt(exprs, stmts, node)
+}
+
+// `if (reset) begin`, the reset value, `end`.
+fn put_reset_stmt(
+    alloc: Global,
+    exprs: &mut Arena<VExpr>,
+    stmts: &mut Arena<VStmt>,
+    sheet: &Sheet,
+    x: SigId,
+    reset: SigId,
+) -> Result<VStmtId, NoMemory>
+    requires sheet { IsSheet sheet.now }
+    requires placed { StmtsPlaced (length exprs.old) stmts.old }
+    requires signal { x.0 < length sheet.now.design.now.signals }
+    requires reset { reset.0 < length sheet.now.design.now.signals }
+    ensures { IfOk result (λ i. PutStmt exprs.old exprs.new stmts.old stmts.new i.place (reset_stmt sheet.now.design.now sheet.now.names.now x.0 reset)) }
+{
+    let assign = put_reset_assign(alloc, exprs, stmts, sheet, x, false)?;
+    let so = List::of_one(alloc, assign)?;
+    stmts.lower();
+    let name = net_name(alloc, sheet, reset)?;
+    let cond = put_net(exprs, name)?;
+    let other = None;
+    add_stmt(exprs, stmts, VStmt::When { cond, so, other })
+}
+
+/// Adds the statements of a block of `always @(*)`: first the reset value, then the statements.
+pub fn put_combined(
+    alloc: Global,
+    exprs: &mut Arena<VExpr>,
+    stmts: &mut Arena<VStmt>,
+    sheet: &Sheet,
+    x: SigId,
+    body: &[StmtId],
+) -> Result<List<VStmtId>, NoMemory>
+    requires sheet { IsSheet sheet.now }
+    requires placed { StmtsPlaced (length exprs.old) stmts.old }
+    requires signal { x.0 < length sheet.now.design.now.signals }
+    requires below { IsTrue (all_stmts_below (length sheet.now.design.now.stmts) body.now) }
+    requires plain { ArePlain (designs.block sheet.now.design.now body.now) }
+    ensures { IfOk result (λ list. PutBlock exprs.old exprs.new stmts.old stmts.new list (combined_body sheet.now.design.now sheet.now.names.now x.0 body.now)) }
+{
+    let bound = sheet.design.stmts.len();
+    let first = put_reset_assign(alloc, exprs, stmts, sheet, x, true)?;
+    let list = List::of_one(alloc, first)?;
+    put_stmts(alloc, exprs, stmts, sheet, true, body, bound, list)
+}
+
+// The reset of a domain, where the signal takes part in it.
+fn reset_of(sheet: &Sheet, x: SigId, domain: usize) -> Option<SigId>
+    requires sheet { IsSheet sheet.now }
+    requires signal { x.0 < length sheet.now.design.now.signals }
+    requires domain { domain < length sheet.now.design.now.domains }
+    ensures block { block_by sheet.now.design.now sheet.now.names.now x.0 result ≡ reset_block sheet.now.design.now sheet.now.names.now x.0 (domain_reset (slice_get sheet.now.design.now.domains domain)) }
+    ensures there { IfSome result (λ r. r.0 < length sheet.now.design.now.signals) }
+{
+    if sheet.design.signals.at(x.0).reset_less {
+        None
+    } else {
+        sheet.design.domains.at(domain).reset
+    }
+}
+
+/// Adds the statements of a block at the rise of a domain's clock: the statements, then the reset.
+pub fn put_clocked(
+    alloc: Global,
+    exprs: &mut Arena<VExpr>,
+    stmts: &mut Arena<VStmt>,
+    sheet: &Sheet,
+    x: SigId,
+    domain: usize,
+    body: &[StmtId],
+) -> Result<List<VStmtId>, NoMemory>
+    requires sheet { IsSheet sheet.now }
+    requires placed { StmtsPlaced (length exprs.old) stmts.old }
+    requires signal { x.0 < length sheet.now.design.now.signals }
+    requires domain { domain < length sheet.now.design.now.domains }
+    requires below { IsTrue (all_stmts_below (length sheet.now.design.now.stmts) body.now) }
+    requires plain { ArePlain (designs.block sheet.now.design.now body.now) }
+    ensures { IfOk result (λ list. PutBlock exprs.old exprs.new stmts.old stmts.new list (clocked_body sheet.now.design.now sheet.now.names.now x.0 domain body.now)) }
+{
+    let bound = sheet.design.stmts.len();
+    let empty = List::new(alloc);
+    let mut list = put_stmts(alloc, exprs, stmts, sheet, false, body, bound, empty)?;
+    let Some(reset) = reset_of(sheet, x, domain) else {
+        return Ok(list);
+    };
+    let last = put_reset_stmt(alloc, exprs, stmts, sheet, x, reset)?;
+    list.push(last)?;
+    Ok(list)
+}

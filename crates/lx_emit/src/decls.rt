@@ -1,0 +1,104 @@
+//! Declarations of nets (IEEE 1364-2005, "Net and variable declarations").
+
+ghost use Rattle.std.specs.Prelude.{◌≡◌, ◌++◌, ◌<◌, length, map, flat_map, IfOk, OnOk};
+ghost use Rattle.lx_vtree.specs.Modules.{decl_of};
+ghost use Rattle.lx_emission.specs.Emission.{decls_of, inner_decl, node_decl, places_from};
+ghost use Rattle.lx_emit.specs.Drives.{AreDrives};
+ghost use Rattle.lx_emit.specs.Tables.{IsSheet};
+
+use crate::drives::{Drive, is_port};
+use crate::nets::{node_wire, signal_net};
+use crate::tables::{Sheet, has_net};
+use lx_arena::Id;
+use lx_fhdl::{ExprId, SigId};
+use lx_text::{List, NoMemory};
+use lx_vtree::Decl;
+use std::alloc::Global;
+use std::marker::PhantomData;
+
+// Adds the net of a signal that is no port.
+#[tactic(auto, unfolding(lx_emission::specs::Emission::inner_decl))]
+fn put_signal(
+    alloc: Global,
+    sheet: &Sheet,
+    drives: &[Drive],
+    decls: &mut List<Decl>,
+    x: SigId,
+) -> Result<(), NoMemory>
+    requires sheet { IsSheet sheet.now }
+    requires drives { AreDrives sheet.now.design.now drives.now }
+    requires signal { x.0 < length sheet.now.design.now.signals }
+    ensures { OnOk result (map decl_of decls.new ≡ map decl_of decls.old ++ inner_decl sheet.now.design.now sheet.now.names.now x.0) }
+{
+    if is_port(sheet.design, x) {
+        return Ok(());
+    }
+    let net = signal_net(alloc, sheet, drives, x)?;
+    decls.push(Decl::Net(net))
+}
+
+// Adds the net of an operator or slice.
+#[tactic(auto, unfolding(lx_emission::specs::Emission::node_decl))]
+fn put_node(
+    alloc: Global,
+    sheet: &Sheet,
+    decls: &mut List<Decl>,
+    id: ExprId,
+) -> Result<(), NoMemory>
+    requires sheet { IsSheet sheet.now }
+    requires place { id.place < length sheet.now.design.now.exprs }
+    ensures { OnOk result (map decl_of decls.new ≡ map decl_of decls.old ++ node_decl sheet.now.design.now sheet.now.names.now id.place) }
+{
+    if !has_net(sheet.design.exprs.get(id)) {
+        return Ok(());
+    }
+    let net = node_wire(alloc, sheet, id)?;
+    decls.push(Decl::Net(net))
+}
+
+// Adds the nets of all signals that are no ports.
+#[tactic(auto, using(crate::proofs::Lines::pieces_next, crate::proofs::Lines::pieces_end))]
+fn put_signals(
+    alloc: Global,
+    sheet: &Sheet,
+    drives: &[Drive],
+    decls: &mut List<Decl>,
+) -> Result<(), NoMemory>
+    requires sheet { IsSheet sheet.now }
+    requires drives { AreDrives sheet.now.design.now drives.now }
+    ensures { OnOk result (map decl_of decls.new ≡ map decl_of decls.old ++ flat_map (inner_decl sheet.now.design.now sheet.now.names.now) (places_from 0 sheet.now.design.now.signals)) }
+{
+    for x in 0..sheet.design.signals.len() {
+        put_signal(alloc, sheet, drives, decls, SigId(x))?;
+    }
+    Ok(())
+}
+
+// Adds the nets of all operators and slices.
+#[tactic(auto, using(crate::proofs::Lines::pieces_next, crate::proofs::Lines::pieces_end))]
+fn put_nodes(alloc: Global, sheet: &Sheet, decls: &mut List<Decl>) -> Result<(), NoMemory>
+    requires { IsSheet sheet.now }
+    ensures { OnOk result (map decl_of decls.new ≡ map decl_of decls.old ++ flat_map (node_decl sheet.now.design.now sheet.now.names.now) (places_from 0 sheet.now.design.now.exprs)) }
+{
+    for place in 0..sheet.design.exprs.len() {
+        let id = Id {
+            place,
+            of: PhantomData,
+        };
+        put_node(alloc, sheet, decls, id)?;
+    }
+    Ok(())
+}
+
+/// The declarations of a module: the nets of the signals that are no ports, and then those of operators and slices.
+#[tactic(auto, unfolding(lx_emission::specs::Emission::decls_of))]
+pub fn decls(alloc: Global, sheet: &Sheet, drives: &[Drive]) -> Result<List<Decl>, NoMemory>
+    requires sheet { IsSheet sheet.now }
+    requires drives { AreDrives sheet.now.design.now drives.now }
+    ensures { IfOk result (λ list. map decl_of list ≡ decls_of sheet.now.design.now sheet.now.names.now) }
+{
+    let mut decls = List::new(alloc);
+    put_signals(alloc, sheet, drives, &mut decls)?;
+    put_nodes(alloc, sheet, &mut decls)?;
+    Ok(decls)
+}

@@ -1,0 +1,472 @@
+//! Expressions: operands, and what drives the nets of operators and slices (IEEE 1364-2005, "Expressions").
+
+ghost use Rattle.std.specs.Prelude.{◌≡◌, ◌<◌, ◌≤◌, ◌^◌, ◌/◌, ◌%◌, ◌-◌, true, false, Some, length, slice_get, IfOk, IsTrue};
+ghost use Rattle.lx_num.specs.Ints.{modulo};
+ghost use Rattle.lx_tables.specs.Operators.{mix_of, row_of};
+ghost use Rattle.lx_tie.specs.Rows.{unary_op, binary_op};
+ghost use Rattle.lx_vtext.specs.Tree as tree;
+ghost use Rattle.lx_vtree.specs.Below.{are_below};
+ghost use Rattle.lx_vtree.specs.Growth.{Grows};
+ghost use Rattle.lx_vtree.specs.Trees.{tree_at, plants};
+ghost use Rattle.lx_fhdl.specs.Below.{all_below};
+ghost use Rattle.lx_fhdl.specs.Lowered.{is_no_pick};
+ghost use Rattle.lx_fhdl.specs.declared.exprs.Expr.{Expr};
+ghost use Rattle.lx_emission.specs.Naming.{has_net, node_name};
+ghost use Rattle.lx_emission.specs.Nodes.{operand, node_shape, node_text, wide_if, unary_text, binary_text, choice_text, parts_onto, cat_text, slice_text};
+ghost use Rattle.lx_emit.specs.Operands.{tree_of};
+ghost use Rattle.lx_emit.specs.Tables.{IsSheet, Put, PutParts, text_of};
+
+use crate::tables::{Sheet, net_name};
+use lx_arena::Arena;
+use lx_fhdl::{Expr, ExprId};
+use lx_num::{Shape, field};
+use lx_tables::{Mix, Op, OpRow, OpText, op_row};
+use lx_text::{List, NoMemory, Text, Word};
+use lx_vtext::{BinOp, UnOp};
+use lx_vtree::{ExprId as VExprId, Literal, VExpr, add_expr};
+use std::alloc::Global;
+
+/// An expression where it is read: a constant is a literal, and all others are the names of nets.
+#[derive(Drop)]
+pub enum Operand {
+    Literal(Literal),
+    Net(Word),
+}
+
+/// The name of the net of number `n` among those of operators and slices.
+#[tactic(auto, using(lx_vtext::proofs::Numbers::number_decimal), unfolding(lx_emission::specs::Naming::node_name))]
+pub fn node_name(alloc: Global, n: usize) -> Result<Word, NoMemory>
+    ensures { IfOk result (λ word. word ≡ node_name n) }
+{
+    let mut text = Text::new(alloc);
+    text.word(b"n$")?;
+    text.count(n as u128)?;
+    Word::new(alloc, text.as_bytes())
+}
+
+/// The literal of a constant.
+pub(crate) fn constant(value: i128, bits: u32, signed: bool) -> Literal
+    requires some { 0 < bits }
+    requires most { bits < 128 }
+    ensures { tree.Literal result.bits result.signed result.value ≡ tree.Literal bits signed (modulo value (2 ^ bits)) }
+{
+    let bits = bits as u8;
+    Literal {
+        bits,
+        signed,
+        value: field(value, 0, bits) as u128,
+    }
+}
+
+/// An expression where it is read.
+pub fn operand_of(alloc: Global, sheet: &Sheet, id: ExprId) -> Result<Operand, NoMemory>
+    requires sheet { IsSheet sheet.now }
+    requires place { id.place < length sheet.now.design.now.exprs }
+    ensures { IfOk result (λ o. tree_of o ≡ operand sheet.now.design.now sheet.now.names.now id.place) }
+{
+    match sheet.design.exprs.get(id) {
+        Expr::Const {
+            value,
+            bits,
+            signed,
+        } => Ok(Operand::Literal(constant(*value, *bits, *signed))),
+        Expr::Sig(x) => Ok(Operand::Net(net_name(alloc, sheet, *x)?)),
+        _ => Ok(Operand::Net(node_name(alloc, sheet.numbers[id.place])?)),
+    }
+}
+
+/// Adds the name of a net.
+pub fn put_net(out: &mut Arena<VExpr>, name: Word) -> Result<VExprId, NoMemory>
+    ensures { IfOk result (λ i. Put out.old out.new i.place (tree.Net name)) }
+{
+    add_expr(out, VExpr::Net(name))
+}
+
+/// Adds a literal.
+pub fn put_literal(out: &mut Arena<VExpr>, literal: Literal) -> Result<VExprId, NoMemory>
+    ensures { IfOk result (λ i. Put out.old out.new i.place (tree.Literal literal.bits literal.signed literal.value)) }
+{
+    add_expr(out, VExpr::Literal(literal))
+}
+
+/// Adds the text of an expression where it is read.
+pub fn put_operand(
+    alloc: Global,
+    out: &mut Arena<VExpr>,
+    sheet: &Sheet,
+    id: ExprId,
+) -> Result<VExprId, NoMemory>
+    requires sheet { IsSheet sheet.now }
+    requires place { id.place < length sheet.now.design.now.exprs }
+    ensures { IfOk result (λ i. Put out.old out.new i.place (operand sheet.now.design.now sheet.now.names.now id.place)) }
+{
+    match operand_of(alloc, sheet, id)? {
+        Operand::Literal(literal) => put_literal(out, literal),
+        Operand::Net(name) => put_net(out, name),
+    }
+}
+
+// `$signed({1'd0, e})` for an unsigned operand beside a signed one, else the operand as it stands.
+fn put_wide(
+    alloc: Global,
+    out: &mut Arena<VExpr>,
+    widen: bool,
+    of: VExprId,
+) -> Result<VExprId, NoMemory>
+    requires { of.place < length out.old }
+    ensures { IfOk result (λ i. Put out.old out.new i.place (wide_if widen (tree_at out.old of.place))) }
+{
+    if widen {
+        let zero = put_zero(out)?;
+        let more = List::of_one(alloc, of)?;
+        let both = add_expr(out, VExpr::Concat { first: zero, more })?;
+        add_expr(out, VExpr::ToSigned(both))
+    } else {
+        Ok(of)
+    }
+}
+
+// The zero bit above an operand.
+fn put_zero(out: &mut Arena<VExpr>) -> Result<VExprId, NoMemory>
+    ensures { IfOk result (λ i. Put out.old out.new i.place (tree.Literal 1 false 0)) }
+{
+    let zero = Literal {
+        bits: 1,
+        signed: false,
+        value: 0,
+    };
+    put_literal(out, zero)
+}
+
+// The Verilog operator of a form with one operand.
+fn unary_op(text: OpText) -> UnOp
+    ensures { result ≡ unary_op text }
+{
+    match text {
+        OpText::Inverted => UnOp::Invert,
+        _ => UnOp::Negate,
+    }
+}
+
+// The Verilog operator of a form with two operands.
+fn binary_op(text: OpText) -> BinOp
+    ensures { result ≡ binary_op text }
+{
+    match text {
+        OpText::Minus => BinOp::Sub,
+        OpText::Times => BinOp::Mul,
+        OpText::ShiftLeft => BinOp::ShiftLeft,
+        OpText::ShiftRight => BinOp::ShiftRight,
+        OpText::ShiftRightSigned => BinOp::ArithmeticRight,
+        OpText::BitAnd => BinOp::And,
+        OpText::BitOr => BinOp::Or,
+        OpText::BitXor => BinOp::Xor,
+        OpText::Equal => BinOp::Equal,
+        OpText::NotEqual => BinOp::NotEqual,
+        OpText::Less => BinOp::Less,
+        OpText::LessOrEqual => BinOp::LessEqual,
+        OpText::Greater => BinOp::Greater,
+        OpText::GreaterOrEqual => BinOp::GreaterEqual,
+        _ => BinOp::Add,
+    }
+}
+
+// The signs of two operands.
+fn mix(left: bool, right: bool) -> Mix
+    ensures { result ≡ mix_of left right }
+{
+    match (left, right) {
+        (false, false) => Mix::UU,
+        (false, true) => Mix::US,
+        (true, false) => Mix::SU,
+        (true, true) => Mix::SS,
+    }
+}
+
+// An operator of one operand, sized by its row.
+fn put_unary(
+    alloc: Global,
+    out: &mut Arena<VExpr>,
+    row: OpRow,
+    of: VExprId,
+) -> Result<VExprId, NoMemory>
+    requires { of.place < length out.old }
+    ensures { IfOk result (λ i. Put out.old out.new i.place (unary_text row (tree_at out.old of.place))) }
+{
+    let of = put_wide(alloc, out, row.widen_left, of)?;
+    let op = unary_op(row.text);
+    add_expr(out, VExpr::Unary { op, of })
+}
+
+// An operator of two operands, sized by its row.
+fn put_binary(
+    alloc: Global,
+    out: &mut Arena<VExpr>,
+    row: OpRow,
+    left: VExprId,
+    right: VExprId,
+) -> Result<VExprId, NoMemory>
+    requires left { left.place < length out.old }
+    requires right { right.place < length out.old }
+    ensures { IfOk result (λ i. Put out.old out.new i.place (binary_text row (tree_at out.old left.place) (tree_at out.old right.place))) }
+{
+    let wide_left = put_wide(alloc, out, row.widen_left, left)?;
+    let wide_right = put_wide(alloc, out, row.widen_right, right)?;
+    let node = VExpr::Binary {
+        left: wide_left,
+        op: binary_op(row.text),
+        right: wide_right,
+    };
+    add_expr(out, node)
+}
+
+// A choice between two operands, sized by its row.
+fn put_choice(
+    alloc: Global,
+    out: &mut Arena<VExpr>,
+    row: OpRow,
+    cond: VExprId,
+    yes: VExprId,
+    no: VExprId,
+) -> Result<VExprId, NoMemory>
+    requires cond { cond.place < length out.old }
+    requires yes { yes.place < length out.old }
+    requires no { no.place < length out.old }
+    ensures { IfOk result (λ i. Put out.old out.new i.place (choice_text row (tree_at out.old cond.place) (tree_at out.old yes.place) (tree_at out.old no.place))) }
+{
+    let so = put_wide(alloc, out, row.widen_left, yes)?;
+    let other = put_wide(alloc, out, row.widen_right, no)?;
+    add_expr(out, VExpr::Choose { cond, so, other })
+}
+
+// Adds the texts of parts, the last one first.
+fn put_parts(
+    alloc: Global,
+    out: &mut Arena<VExpr>,
+    sheet: &Sheet,
+    parts: &[ExprId],
+) -> Result<List<VExprId>, NoMemory>
+    requires sheet { IsSheet sheet.now }
+    requires places { IsTrue (all_below (length sheet.now.design.now.exprs) parts.now) }
+    ensures { IfOk result (λ ids. PutParts out.old out.new ids (parts_onto (operand sheet.now.design.now sheet.now.names.now) parts.now tree.NoMore)) }
+{
+    let mut texts = List::new(alloc);
+    for place in (0..parts.len()).rev() {
+        let text = put_operand(alloc, out, sheet, parts[place])?;
+        texts.push(text)?;
+    }
+    Ok(texts)
+}
+
+// Parts side by side: the first stands last, in the lowest bits.
+fn put_cat(
+    alloc: Global,
+    out: &mut Arena<VExpr>,
+    sheet: &Sheet,
+    parts: &[ExprId],
+) -> Result<VExprId, NoMemory>
+    requires sheet { IsSheet sheet.now }
+    requires places { IsTrue (all_below (length sheet.now.design.now.exprs) parts.now) }
+    requires some { 0 < length parts.now }
+    ensures { IfOk result (λ i. Put out.old out.new i.place (cat_text (operand sheet.now.design.now sheet.now.names.now) parts.now)) }
+{
+    let last = parts.len() - 1;
+    let first = put_operand(alloc, out, sheet, parts[last])?;
+    let more = put_parts(alloc, out, sheet, &parts[..last])?;
+    add_expr(out, VExpr::Concat { first, more })
+}
+
+// Bits `low` to `high - 1` of a net of so many bits; a select never covers its name.
+fn put_select(
+    out: &mut Arena<VExpr>,
+    name: Word,
+    bits: u8,
+    low: u32,
+    high: u32,
+) -> Result<VExprId, NoMemory>
+    requires { low < high }
+    ensures { IfOk result (λ i. Put out.old out.new i.place (slice_text (tree.Net name) bits low high)) }
+{
+    if low == 0 && high == bits as u32 {
+        let net = put_net(out, name)?;
+        return add_expr(out, VExpr::ToUnsigned(net));
+    }
+    let node = VExpr::Select {
+        name,
+        hi: (high - 1) as u64,
+        lo: low as u64,
+    };
+    add_expr(out, node)
+}
+
+// Bits `low` to `high - 1` of a literal.
+fn field_of(literal: Literal, low: u32, high: u32) -> Literal
+    requires some { low < high }
+    requires most { high < 128 }
+    ensures { tree.Literal result.bits result.signed result.value ≡ tree.Literal (high - low) false (literal.value / 2 ^ low % 2 ^ (high - low)) }
+{
+    let bits = high - low;
+    Literal {
+        bits: bits as u8,
+        signed: false,
+        value: (literal.value >> low) % (1 << bits),
+    }
+}
+
+// Bits `low` to `high - 1` of an operand of so many bits.
+fn put_slice(
+    out: &mut Arena<VExpr>,
+    of: Operand,
+    bits: u8,
+    low: u32,
+    high: u32,
+) -> Result<VExprId, NoMemory>
+    requires some { low < high }
+    requires most { high < 128 }
+    ensures { IfOk result (λ i. Put out.old out.new i.place (slice_text (tree_of of) bits low high)) }
+{
+    match of {
+        Operand::Literal(literal) => put_literal(out, field_of(literal, low, high)),
+        Operand::Net(name) => put_select(out, name, bits, low, high),
+    }
+}
+
+// The shape of an expression.
+fn shape_at(sheet: &Sheet, id: ExprId) -> Shape
+    requires sheet { IsSheet sheet.now }
+    requires place { id.place < length sheet.now.design.now.exprs }
+    ensures { result ≡ node_shape sheet.now.design.now id.place }
+{
+    sheet.shapes[id.place]
+}
+
+// How an operator of these two operands is written.
+fn row_at(sheet: &Sheet, op: Op, left: ExprId, right: ExprId) -> OpRow
+    requires sheet { IsSheet sheet.now }
+    requires left { left.place < length sheet.now.design.now.exprs }
+    requires right { right.place < length sheet.now.design.now.exprs }
+    ensures { result ≡ row_of op (mix_of (node_shape sheet.now.design.now left.place).signed (node_shape sheet.now.design.now right.place).signed) }
+{
+    let mix = mix(shape_at(sheet, left).signed, shape_at(sheet, right).signed);
+    op_row(op, mix)
+}
+
+// An operator of one operand.
+fn put_unary_of(
+    alloc: Global,
+    out: &mut Arena<VExpr>,
+    sheet: &Sheet,
+    op: Op,
+    of: ExprId,
+) -> Result<VExprId, NoMemory>
+    requires sheet { IsSheet sheet.now }
+    requires place { of.place < length sheet.now.design.now.exprs }
+    ensures { IfOk result (λ i. Put out.old out.new i.place (text_of sheet.now (Expr.Unary op of))) }
+{
+    let row = row_at(sheet, op, of, of);
+    let of = put_operand(alloc, out, sheet, of)?;
+    put_unary(alloc, out, row, of)
+}
+
+// An operator of two operands.
+fn put_binary_of(
+    alloc: Global,
+    out: &mut Arena<VExpr>,
+    sheet: &Sheet,
+    op: Op,
+    left: ExprId,
+    right: ExprId,
+) -> Result<VExprId, NoMemory>
+    requires sheet { IsSheet sheet.now }
+    requires left { left.place < length sheet.now.design.now.exprs }
+    requires right { right.place < length sheet.now.design.now.exprs }
+    ensures { IfOk result (λ i. Put out.old out.new i.place (text_of sheet.now (Expr.Binary op left right))) }
+{
+    let row = row_at(sheet, op, left, right);
+    let a = put_operand(alloc, out, sheet, left)?;
+    let b = put_operand(alloc, out, sheet, right)?;
+    put_binary(alloc, out, row, a, b)
+}
+
+// A choice between two operands.
+fn put_choice_of(
+    alloc: Global,
+    out: &mut Arena<VExpr>,
+    sheet: &Sheet,
+    cond: ExprId,
+    yes: ExprId,
+    no: ExprId,
+) -> Result<VExprId, NoMemory>
+    requires sheet { IsSheet sheet.now }
+    requires cond { cond.place < length sheet.now.design.now.exprs }
+    requires yes { yes.place < length sheet.now.design.now.exprs }
+    requires no { no.place < length sheet.now.design.now.exprs }
+    ensures { IfOk result (λ i. Put out.old out.new i.place (text_of sheet.now (Expr.Mux cond yes no))) }
+{
+    let row = row_at(sheet, Op::Mux, yes, no);
+    let c = put_operand(alloc, out, sheet, cond)?;
+    let a = put_operand(alloc, out, sheet, yes)?;
+    let b = put_operand(alloc, out, sheet, no)?;
+    put_choice(alloc, out, row, c, a, b)
+}
+
+// Copies of an operand side by side.
+fn put_copies_of(
+    alloc: Global,
+    out: &mut Arena<VExpr>,
+    sheet: &Sheet,
+    of: ExprId,
+    count: u32,
+) -> Result<VExprId, NoMemory>
+    requires sheet { IsSheet sheet.now }
+    requires place { of.place < length sheet.now.design.now.exprs }
+    ensures { IfOk result (λ i. Put out.old out.new i.place (text_of sheet.now (Expr.Replicate of count))) }
+{
+    let count = count as u64;
+    let of = put_operand(alloc, out, sheet, of)?;
+    add_expr(out, VExpr::Repeat { count, of })
+}
+
+// Bits `low` to `high - 1` of an operand.
+fn put_slice_of(
+    alloc: Global,
+    out: &mut Arena<VExpr>,
+    sheet: &Sheet,
+    of: ExprId,
+    low: u32,
+    high: u32,
+) -> Result<VExprId, NoMemory>
+    requires sheet { IsSheet sheet.now }
+    requires place { of.place < length sheet.now.design.now.exprs }
+    requires some { low < high }
+    requires most { high < 128 }
+    ensures { IfOk result (λ i. Put out.old out.new i.place (text_of sheet.now (Expr.Slice of low high))) }
+{
+    let bits = shape_at(sheet, of).bits;
+    let of = operand_of(alloc, sheet, of)?;
+    put_slice(out, of, bits, low, high)
+}
+
+/// Adds the text of an operator or slice, which drives its net: its operands sized by the operator's row.
+pub fn put_node(
+    alloc: Global,
+    out: &mut Arena<VExpr>,
+    sheet: &Sheet,
+    id: ExprId,
+) -> Result<VExprId, NoMemory>
+    requires sheet { IsSheet sheet.now }
+    requires place { id.place < length sheet.now.design.now.exprs }
+    requires operator { (x : Expr) → slice_get sheet.now.design.now.exprs id.place ≡ Some x → has_net x ≡ true }
+    requires no_pick { (x : Expr) → slice_get sheet.now.design.now.exprs id.place ≡ Some x → is_no_pick x ≡ true }
+    ensures { IfOk result (λ i. Put out.old out.new i.place (node_text sheet.now.design.now sheet.now.names.now id.place)) }
+{
+    match sheet.design.exprs.get(id) {
+        Expr::Unary { op, of } => put_unary_of(alloc, out, sheet, *op, *of),
+        Expr::Binary { op, left, right } => put_binary_of(alloc, out, sheet, *op, *left, *right),
+        Expr::Mux { cond, yes, no } => put_choice_of(alloc, out, sheet, *cond, *yes, *no),
+        Expr::Cat(parts) => put_cat(alloc, out, sheet, parts.as_slice()),
+        Expr::Replicate { of, count } => put_copies_of(alloc, out, sheet, *of, *count),
+        Expr::Slice { of, low, high } => put_slice_of(alloc, out, sheet, *of, *low, *high),
+        Expr::Const { .. } | Expr::Sig(_) | Expr::Pick { .. } => unreachable!(),
+    }
+}

@@ -1,0 +1,82 @@
+//! Nets: wires, and registers with their reset values (IEEE 1364-2005, "Net and variable declarations").
+
+ghost use Rattle.std.specs.Prelude.{◌≡◌, ◌<◌, length, option_map, IfOk};
+ghost use Rattle.lx_vtree.specs.Modules.{literal_of, net_of};
+ghost use Rattle.lx_emission.specs.Naming.{clock_name, node_net};
+ghost use Rattle.lx_emission.specs.Nodes.{node_shape};
+ghost use Rattle.lx_emission.specs.Emission.{wire};
+ghost use Rattle.lx_emission.specs.Signals.{init_of, reset_of_signal, shape_of_signal, signal_net};
+ghost use Rattle.lx_emit.specs.Drives.{AreDrives, drive_of};
+ghost use Rattle.lx_emit.specs.Tables.{IsSheet};
+
+use crate::blocks::reset_literal;
+use crate::drives::Drive;
+use crate::exprs::node_name;
+use crate::tables::{Sheet, net_name};
+use lx_fhdl::{Domain, ExprId, SigId};
+use lx_num::Shape;
+use lx_text::{NoMemory, Text, Word};
+use lx_vtree::{Literal, Net};
+use std::alloc::Global;
+
+// The first value of a signal's net, where a block drives it.
+fn init(sheet: &Sheet, drive: &Drive, x: SigId) -> Option<Literal>
+    requires sheet { IsSheet sheet.now }
+    requires signal { x.0 < length sheet.now.design.now.signals }
+    ensures { option_map literal_of result ≡ init_of (shape_of_signal sheet.now.design.now x.0) (reset_of_signal sheet.now.design.now x.0) (drive_of drive.now) }
+{
+    match drive {
+        Drive::Given | Drive::Held | Drive::Equal(_) => None,
+        Drive::Combined(_) | Drive::Clocked { .. } => Some(reset_literal(sheet, x)),
+    }
+}
+
+/// The net of a signal: a register where a block drives it.
+pub fn signal_net(alloc: Global, sheet: &Sheet, drives: &[Drive], x: SigId) -> Result<Net, NoMemory>
+    requires sheet { IsSheet sheet.now }
+    requires drives { AreDrives sheet.now.design.now drives.now }
+    requires signal { x.0 < length sheet.now.design.now.signals }
+    ensures { IfOk result (λ net. net_of net ≡ signal_net sheet.now.design.now sheet.now.names.now x.0) }
+{
+    let shape = sheet.design.signals.at(x.0).shape;
+    let name = net_name(alloc, sheet, x)?;
+    Ok(Net {
+        signed: shape.signed,
+        bits: shape.bits as u64,
+        name,
+        init: init(sheet, &drives[x.0], x),
+    })
+}
+
+/// A wire.
+pub fn wire(shape: Shape, name: Word) -> Net
+    ensures { net_of result ≡ wire shape.signed shape.bits name }
+{
+    Net {
+        signed: shape.signed,
+        bits: shape.bits as u64,
+        name,
+        init: None,
+    }
+}
+
+/// The wire of an operator or slice.
+pub fn node_wire(alloc: Global, sheet: &Sheet, id: ExprId) -> Result<Net, NoMemory>
+    requires sheet { IsSheet sheet.now }
+    requires place { id.place < length sheet.now.design.now.exprs }
+    ensures { IfOk result (λ net. net_of net ≡ wire (node_shape sheet.now.design.now id.place).signed (node_shape sheet.now.design.now id.place).bits (node_net sheet.now.design.now.exprs id.place)) }
+{
+    let name = node_name(alloc, sheet.numbers[id.place])?;
+    Ok(wire(sheet.shapes[id.place], name))
+}
+
+/// The name of a domain's clock.
+#[tactic(auto, unfolding(lx_emission::specs::Naming::clock_name))]
+pub fn clock_name(alloc: Global, domain: &Domain) -> Result<Word, NoMemory>
+    ensures { IfOk result (λ word. word ≡ clock_name domain.now.name) }
+{
+    let mut text = Text::new(alloc);
+    text.word(domain.name.as_bytes())?;
+    text.word(b"_clk")?;
+    Word::new(alloc, text.as_bytes())
+}
