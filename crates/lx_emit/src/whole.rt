@@ -1,8 +1,9 @@
 //! The Verilog module of a lowered design (IEEE 1364-2005, "Modules").
 
-ghost use Rattle.std.specs.Prelude.{IfOk};
+ghost use Rattle.std.specs.Prelude.{◌≡◌, IfOk};
 ghost use Rattle.lx_vtree.specs.Modules.{module_of};
 ghost use Rattle.lx_fhdl.specs.Lowered.{IsLowered};
+ghost use Rattle.lx_emission.specs.Emission.{emitted};
 ghost use Rattle.lx_emission.specs.Emits.{CanBeEmitted, Emits};
 ghost use Rattle.lx_emit.specs.Drives.{AreDrives};
 ghost use Rattle.lx_emit.specs.Tables.{IsSheet};
@@ -44,10 +45,12 @@ fn parts(alloc: Global, sheet: &Sheet, drives: &[Drive]) -> Result<Parts, NoMemo
     })
 }
 
-/// The Verilog module of a lowered design, with a name for the net of each signal.
+/// The Verilog module of a lowered design, with a name for the net of each signal: exactly that of the definition,
+/// which has a text and a cycle meaning and gives each signal its number after every list of steps.
 pub fn emit_design(alloc: Global, design: &Design, names: &List<Word>) -> Result<Module, NoMemory>
     requires { CanBeEmitted design.now names.now }
-    ensures { IfOk result (λ m. Emits design.now names.now (module_of m)) }
+    ensures tree { IfOk result (λ m. module_of m ≡ emitted design.now names.now) }
+    ensures emits { IfOk result (λ m. Emits design.now names.now (module_of m)) }
 {
     let shapes = shapes(alloc, design)?;
     let numbers = numbers(alloc, design)?;
