@@ -5,5 +5,6 @@
 mod adapters;
 #[cfg(test)]
 mod builds;
+pub mod operators;
 #[cfg(test)]
 mod texts;
