@@ -11,3 +11,6 @@ pub mod Operators
 pub mod Follow
 pub mod Theorem
 pub mod Lawful
+pub mod Places
+pub mod DesignNodes
+pub mod DesignCircuit

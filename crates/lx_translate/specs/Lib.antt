@@ -1,4 +1,5 @@
 pub mod FormCircuit
+pub mod FormDesign
 pub mod FormModule
 pub mod Pieces
 pub mod Translation

@@ -1,0 +1,76 @@
+-- The nodes, targets and statements of the design of a description.
+use Rattle.std.proofs.Common.{◌≡◌, ℕ, zero, suc, ◌+◌, ◌<◌, ◌≤◌, Bool, true, false, List, [], ◌∷◌, ◌++◌, length, map, flat_map, Option, Some, None, refl, sym, ap, subst, ◌∙◌, arith, inl, inr, eq-eqb, ne_eqb}
+use Rattle.std.specs.Prelude.{slice_get}
+use Rattle.std.proofs.lemmas.Bool.{cases_eq}
+use Rattle.std.proofs.lemmas.List.{length-append, length-map}
+use Rattle.lx_tables.specs.declared.operators.Op.{Op}
+use Rattle.lx_tables.specs.declared.operators.Op.TheVariants as op
+use Rattle.lx_arena.specs.Lower.{EachLower}
+use Rattle.lx_fhdl.specs.declared.exprs.Expr.{Expr}
+use Rattle.lx_fhdl.specs.declared.exprs.Expr.TheVariants.{Const, Sig, Unary, Binary, Mux, Cat, Pick, Replicate, Slice}
+use Rattle.lx_fhdl.specs.Below.{expr_below}
+use Rattle.lx_fhdl.specs.Instance.{the_signal, the_expr}
+use Rattle.lx_emission.specs.Emission.{places_from}
+use Rattle.lx_form.specs.declared.file.Operator.{Operator}
+use Rattle.lx_form.specs.declared.file.Side.{Side}
+use Rattle.lx_form.specs.declared.file.Side.TheVariants as side
+use Rattle.lx_form.specs.declared.file.Signal.{Signal}
+use Rattle.lx_form.specs.declared.file.Line.{Line}
+use Rattle.lx_form.specs.declared.file.File.{File}
+use Rattle.lx_form.specs.Form.{are_lines, width_of, side_width}
+use Rattle.lx_translate.specs.FormCircuit.{place_of, op_of}
+use Rattle.lx_translate.specs.FormDesign.{signal_node, operator_node, signal_nodes, operator_nodes, side_place, place_after, design_of}
+use Rattle.lx_translate.proofs.Facts.{LineFits, line_fits, BothMade, both_made}
+use Rattle.lx_translate.proofs.Places.{EachAt, each_at-append, each_at-get, in_first, places_long, place_there}
+
+-- the place of a signal that is made is among the signals
+pub place_within : (ss : List Signal) (a : ℕ) → 0 < width_of ss a → place_of ss a < length ss
+place_within [] a some = absurd (omega arith)
+place_within (s ∷ ss) a some =
+    elim (cases_eq s.letter a) [
+      | inl same ↦ rw (eq-eqb s.letter a same) (omega arith)
+      | inr other ↦
+          let e = ne_eqb s.letter a other in
+          let rest : width_of (s ∷ ss) a ≡ width_of ss a = rw e refl in
+          let within = place_within ss a (omega (arith, rest)) in
+          rw e (omega (arith, within))
+    ]
+
+-- what the node at a place is
+abbrev pub IsNodeAt : List Signal → ℕ → Expr → Type 0
+IsNodeAt ss k (Sig x) = (x.0 ≡ k) × (k < length ss)
+IsNodeAt ss k (Unary o of) = (o ≡ op.Not) × (of.place < length ss) × (length ss ≤ k)
+IsNodeAt ss k (Binary o left right) = ((p : Operator) × (o ≡ op_of p)) × (left.place < length ss) × (right.place < length ss) × (length ss ≤ k)
+IsNodeAt ss k _ = ⊥
+
+signals_are : (SS : List Signal) (k : ℕ) (ss : List Signal) → k + length ss ≤ length SS → EachAt (IsNodeAt SS) k (map signal_node (places_from k ss))
+signals_are SS k [] most = tt
+signals_are SS k (s ∷ ss) most = ((refl, omega arith), signals_are SS (k + 1) ss (omega arith))
+
+operators_are : (SS : List Signal) (k : ℕ) (ls : List Line) → are_lines SS ls ≡ true → length SS ≤ k → EachAt (IsNodeAt SS) k (operator_nodes SS ls)
+operators_are SS k [] h low = tt
+operators_are SS k (l ∷ ls) h low =
+    let fits = line_fits SS l ls h in
+    by_side l.side fits.some (λ j p. operators_are SS j ls fits.others p)
+  where
+    by_side : (x : Side) → 0 < side_width SS x → ((j : ℕ) → length SS ≤ j → EachAt (IsNodeAt SS) j (operator_nodes SS ls)) → EachAt (IsNodeAt SS) k (operator_node SS x ++ operator_nodes SS ls)
+    by_side (side.Same x) some rest = rest k low
+    by_side (side.Not x) some rest = ((refl, place_within SS x some, low), rest (k + 1) (omega arith))
+    by_side (side.Both x o y) some rest =
+        let m = both_made SS x y o some in
+        (((o, refl), place_within SS x m.left, place_within SS y (omega (arith, m.left, m.same)), low), rest (k + 1) (omega arith))
+
+pub nodes_are : (f : File) → are_lines f.signals f.lines ≡ true → EachAt (IsNodeAt f.signals) 0 (design_of f).exprs
+unfolding design_of
+nodes_are f h =
+    let ss = f.signals in
+    let long : length ss ≡ 0 + length (signal_nodes ss) = omega (arith, length-map (places_from 0 ss) signal_node, places_long 0 ss) in
+    each_at-append (IsNodeAt ss) 0 (length ss) (signal_nodes ss) (operator_nodes ss f.lines) long (signals_are ss 0 ss (omega arith)) (operators_are ss (length ss) f.lines h (omega arith))
+
+pub node_is : (f : File) → are_lines f.signals f.lines ≡ true → (k : ℕ) (x : Expr) → slice_get (design_of f).exprs k ≡ Some x → IsNodeAt f.signals k x
+node_is f h k x e = each_at-get (IsNodeAt f.signals) 0 k k (design_of f).exprs x (omega arith) (nodes_are f h) e
+
+-- the node of a signal
+pub signal_there : (f : File) (x : ℕ) → x < length f.signals → slice_get (design_of f).exprs x ≡ Some (signal_node x)
+unfolding design_of
+signal_there f x lt = in_first (signal_nodes f.signals) (operator_nodes f.signals f.lines) x (signal_node x) (place_there signal_node 0 x x f.signals (omega arith) lt)
