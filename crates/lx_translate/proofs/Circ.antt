@@ -106,7 +106,7 @@ made_of (s ∷ ss) a p =
 pub made_is : (f : File) (a : ℕ) → 0 < width_of f.signals a → made (circuit_of f) (place_of f.signals a) ≡ record { shape = unsigned (width_of f.signals a); reset = pos 0; reset_less = false }
 made_is f a p = made_of f.signals a p
 
-zero_fits : (n : ℕ) → FitsBits n false (pos 0)
+pub zero_fits : (n : ℕ) → FitsBits n false (pos 0)
 zero_fits n = fits_pos n 0 (pow_pos n)
 
 keeps : (ss : List Signal) (x : ℕ) → are_signals ss ≡ true → IsMade (slice_index_or (map (λ s. signal_of s) ss) x nothing)

@@ -39,26 +39,17 @@ use Rattle.lx_translate.proofs.Bools.{both}
 use Rattle.lx_translate.proofs.Facts.{LineFits, line_fits, BothMade, both_made, signal_fits}
 use Rattle.lx_translate.proofs.Circ.{made_at}
 use Rattle.lx_translate.proofs.Places.{Tail, tail_all, tail_after, tail_here, tail_next, places_long, each_lower}
-use Rattle.lx_translate.proofs.DesignNodes.{place_within, IsNodeAt, node_is, signal_there}
+use Rattle.lx_translate.proofs.DesignNodes.{place_within, NodeAt, OfSignal, OfNot, OfBoth, node_is, signal_there}
 
 -- ---- nodes stand after their operands
 
-exprs_below : (f : File) → are_lines f.signals f.lines ≡ true → (k : ℕ) (x : Expr) → slice_get (design_of f).exprs k ≡ Some x → expr_below x k ≡ true
-exprs_below f h k x e = by_node x (node_is f h k x e)
-  where
-    by_node : (y : Expr) → IsNodeAt f.signals k y → expr_below y k ≡ true
-    by_node (Sig i) n = refl
-    by_node (Unary o of) n = lt-ltb of.place k (omega arith)
-    by_node (Binary o left right) n = both (nat_lt left.place k) (nat_lt right.place k) (lt-ltb left.place k (omega arith)) (lt-ltb right.place k (omega arith))
-    by_node (Const value bits signed) n = absurd n
-    by_node (Mux cond so other) n = absurd n
-    by_node (Cat parts) n = absurd n
-    by_node (Pick items index) n = absurd n
-    by_node (Replicate of count) n = absurd n
-    by_node (Slice of low high) n = absurd n
+node_below : (ss : List Signal) (k : ℕ) (x : Expr) → NodeAt ss k x → expr_below x k ≡ true
+node_below ss k _ (OfSignal lt) = refl
+node_below ss k _ (OfNot i p low) = lt-ltb i k (omega arith)
+node_below ss k _ (OfBoth o i j p q low) = both (nat_lt i k) (nat_lt j k) (lt-ltb i k (omega arith)) (lt-ltb j k (omega arith))
 
 pub exprs_lower : (f : File) → are_lines f.signals f.lines ≡ true → EachLower expr_below (design_of f).exprs
-exprs_lower f h = each_lower expr_below (design_of f).exprs (exprs_below f h)
+exprs_lower f h = each_lower expr_below (design_of f).exprs (λ k x e. node_below f.signals k x (node_is f h k x e))
 
 -- the tree of a signal's node
 pub signal_term : (f : File) → are_lines f.signals f.lines ≡ true → (x : ℕ) → x < length f.signals → design.term (design_of f) x ≡ tree.Signal x

@@ -36,39 +36,38 @@ place_within (s ∷ ss) a some =
           rw e (omega (arith, within))
     ]
 
--- what the node at a place is
-abbrev pub IsNodeAt : List Signal → ℕ → Expr → Type 0
-IsNodeAt ss k (Sig x) = (x.0 ≡ k) × (k < length ss)
-IsNodeAt ss k (Unary o of) = (o ≡ op.Not) × (of.place < length ss) × (length ss ≤ k)
-IsNodeAt ss k (Binary o left right) = ((p : Operator) × (o ≡ op_of p)) × (left.place < length ss) × (right.place < length ss) × (length ss ≤ k)
-IsNodeAt ss k _ = ⊥
+-- what the node at a place is: a signal, or an operator over signals
+pub data NodeAt (ss : List Signal) (k : ℕ) : Expr → Type 0 where
+  OfSignal : k < length ss → NodeAt ss k (signal_node k)
+  OfNot : (i : ℕ) → i < length ss → length ss ≤ k → NodeAt ss k (Unary op.Not (the_expr i))
+  OfBoth : (o : Operator) (i j : ℕ) → i < length ss → j < length ss → length ss ≤ k → NodeAt ss k (Binary (op_of o) (the_expr i) (the_expr j))
 
-signals_are : (SS : List Signal) (k : ℕ) (ss : List Signal) → k + length ss ≤ length SS → EachAt (IsNodeAt SS) k (map signal_node (places_from k ss))
+signals_are : (SS : List Signal) (k : ℕ) (ss : List Signal) → k + length ss ≤ length SS → EachAt (NodeAt SS) k (map signal_node (places_from k ss))
 signals_are SS k [] most = tt
-signals_are SS k (s ∷ ss) most = ((refl, omega arith), signals_are SS (k + 1) ss (omega arith))
+signals_are SS k (s ∷ ss) most = (OfSignal (omega arith), signals_are SS (k + 1) ss (omega arith))
 
-operators_are : (SS : List Signal) (k : ℕ) (ls : List Line) → are_lines SS ls ≡ true → length SS ≤ k → EachAt (IsNodeAt SS) k (operator_nodes SS ls)
+operators_are : (SS : List Signal) (k : ℕ) (ls : List Line) → are_lines SS ls ≡ true → length SS ≤ k → EachAt (NodeAt SS) k (operator_nodes SS ls)
 operators_are SS k [] h low = tt
 operators_are SS k (l ∷ ls) h low =
     let fits = line_fits SS l ls h in
     by_side l.side fits.some (λ j p. operators_are SS j ls fits.others p)
   where
-    by_side : (x : Side) → 0 < side_width SS x → ((j : ℕ) → length SS ≤ j → EachAt (IsNodeAt SS) j (operator_nodes SS ls)) → EachAt (IsNodeAt SS) k (operator_node SS x ++ operator_nodes SS ls)
+    by_side : (x : Side) → 0 < side_width SS x → ((j : ℕ) → length SS ≤ j → EachAt (NodeAt SS) j (operator_nodes SS ls)) → EachAt (NodeAt SS) k (operator_node SS x ++ operator_nodes SS ls)
     by_side (side.Same x) some rest = rest k low
-    by_side (side.Not x) some rest = ((refl, place_within SS x some, low), rest (k + 1) (omega arith))
+    by_side (side.Not x) some rest = (OfNot (place_of SS x) (place_within SS x some) low, rest (k + 1) (omega arith))
     by_side (side.Both x o y) some rest =
         let m = both_made SS x y o some in
-        (((o, refl), place_within SS x m.left, place_within SS y (omega (arith, m.left, m.same)), low), rest (k + 1) (omega arith))
+        (OfBoth o (place_of SS x) (place_of SS y) (place_within SS x m.left) (place_within SS y (omega (arith, m.left, m.same))) low, rest (k + 1) (omega arith))
 
-pub nodes_are : (f : File) → are_lines f.signals f.lines ≡ true → EachAt (IsNodeAt f.signals) 0 (design_of f).exprs
+pub nodes_are : (f : File) → are_lines f.signals f.lines ≡ true → EachAt (NodeAt f.signals) 0 (design_of f).exprs
 unfolding design_of
 nodes_are f h =
     let ss = f.signals in
     let long : length ss ≡ 0 + length (signal_nodes ss) = omega (arith, length-map (places_from 0 ss) signal_node, places_long 0 ss) in
-    each_at-append (IsNodeAt ss) 0 (length ss) (signal_nodes ss) (operator_nodes ss f.lines) long (signals_are ss 0 ss (omega arith)) (operators_are ss (length ss) f.lines h (omega arith))
+    each_at-append (NodeAt ss) 0 (length ss) (signal_nodes ss) (operator_nodes ss f.lines) long (signals_are ss 0 ss (omega arith)) (operators_are ss (length ss) f.lines h (omega arith))
 
-pub node_is : (f : File) → are_lines f.signals f.lines ≡ true → (k : ℕ) (x : Expr) → slice_get (design_of f).exprs k ≡ Some x → IsNodeAt f.signals k x
-node_is f h k x e = each_at-get (IsNodeAt f.signals) 0 k k (design_of f).exprs x (omega arith) (nodes_are f h) e
+pub node_is : (f : File) → are_lines f.signals f.lines ≡ true → (k : ℕ) (x : Expr) → slice_get (design_of f).exprs k ≡ Some x → NodeAt f.signals k x
+node_is f h k x e = each_at-get (NodeAt f.signals) 0 k k (design_of f).exprs x (omega arith) (nodes_are f h) e
 
 -- the node of a signal
 pub signal_there : (f : File) (x : ℕ) → x < length f.signals → slice_get (design_of f).exprs x ≡ Some (signal_node x)

@@ -11,6 +11,7 @@ use Rattle.lx_form.specs.Form.{is_lower, is_signal, are_signals, width_of, side_
 use Rattle.lx_translate.proofs.Bools.{not_true, or_false}
 
 pub record SignalFits (s : Signal) (ss : List Signal) : Type 0 where
+  pub letter : is_lower s.letter ≡ true
   pub some : 1 ≤ s.width
   pub most : s.width ≤ 64
   pub fresh : width_of ss s.letter ≡ 0
@@ -20,8 +21,9 @@ pub signal_fits : (s : Signal) (ss : List Signal) → are_signals (s ∷ ss) ≡
 signal_fits s ss h =
     let p = and_parts (is_signal s) (eqb (width_of ss s.letter) 0 && are_signals ss) h in
     let q = and_parts (eqb (width_of ss s.letter) 0) (are_signals ss) p.1 in
-    let w = and_parts (leb 1 s.width) (leb s.width 64) (and_parts (is_lower s.letter) (leb 1 s.width && leb s.width 64) p.0).1 in
-    record { some = leb-true 1 s.width w.0; most = leb-true s.width 64 w.1; fresh = eqb-true (width_of ss s.letter) 0 q.0; others = q.1 }
+    let l = and_parts (is_lower s.letter) (leb 1 s.width && leb s.width 64) p.0 in
+    let w = and_parts (leb 1 s.width) (leb s.width 64) l.1 in
+    record { letter = l.0; some = leb-true 1 s.width w.0; most = leb-true s.width 64 w.1; fresh = eqb-true (width_of ss s.letter) 0 q.0; others = q.1 }
 
 pub record LineFits (ss : List Signal) (l : Line) (ls : List Line) : Type 0 where
   pub some : 0 < side_width ss l.side

@@ -14,3 +14,5 @@ pub mod Lawful
 pub mod Places
 pub mod DesignNodes
 pub mod DesignCircuit
+pub mod Words
+pub mod DesignKeeps
