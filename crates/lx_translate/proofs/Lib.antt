@@ -16,3 +16,4 @@ pub mod DesignNodes
 pub mod DesignCircuit
 pub mod Words
 pub mod DesignKeeps
+pub mod DesignModule
