@@ -1,5 +1,5 @@
 -- The circuit of the design of a description is the description's circuit.
-use Rattle.std.proofs.Common.{◌≡◌, ℕ, pos, ◌+◌, ◌<◌, ◌≤◌, Bool, true, false, List, [], ◌∷◌, ◌++◌, length, map, Option, Some, None, refl, sym, ap, ap₂, subst, ◌∙◌, arith, zero, suc, nat_lt}
+use Rattle.std.proofs.Common.{◌≡◌, ℕ, ◌+◌, ◌<◌, true, List, [], ◌∷◌, ◌++◌, length, map, Some, refl, sym, ap, ap₂, subst, ◌∙◌, arith, zero, suc, nat_lt}
 use Rattle.std.specs.Prelude.{slice_get}
 use Rattle.std.proofs.lemmas.Bool.{lt-ltb}
 use Rattle.std.proofs.lemmas.List.{length-map}
@@ -9,17 +9,16 @@ use Rattle.lx_arena.specs.Lower.{EachLower}
 use Rattle.lx_circuit.specs.Terms as tree
 use Rattle.lx_circuit.specs.Terms.{Term}
 use Rattle.lx_circuit.specs.Statements as statement
-use Rattle.lx_circuit.specs.Circuit.{Circuit, Made}
+use Rattle.lx_circuit.specs.Circuit.{Made}
 use Rattle.lx_fhdl.specs.Below.{expr_below, target_below, stmt_below}
 use Rattle.lx_fhdl.specs.Instance.{the_signal, the_expr, the_target, the_stmt}
 use Rattle.lx_fhdl.specs.Designs as design
 use Rattle.lx_fhdl.specs.Designs.{made_of, signal_number}
-use Rattle.lx_fhdl.specs.Stmts.{node_target, node_stmt, target_at, stmt_at, block_at}
+use Rattle.lx_fhdl.specs.Stmts.{target_at}
 use Rattle.lx_fhdl.specs.Trees.{node_term, term_at}
 use Rattle.lx_fhdl.specs.declared.exprs.Expr.{Expr}
-use Rattle.lx_fhdl.specs.declared.exprs.Expr.TheVariants.{Const, Sig, Unary, Binary, Mux, Cat, Pick, Replicate, Slice}
+use Rattle.lx_fhdl.specs.declared.exprs.Expr.TheVariants.{Unary, Binary}
 use Rattle.lx_fhdl.specs.declared.stmts.Target.{Target}
-use Rattle.lx_fhdl.specs.declared.stmts.Target.TheVariants.{Whole}
 use Rattle.lx_fhdl.specs.declared.stmts.Stmt.{Stmt}
 use Rattle.lx_fhdl.specs.declared.stmts.Stmt.TheVariants.{Assign}
 use Rattle.lx_fhdl.specs.declared.design.Design.{Design}
@@ -31,12 +30,12 @@ use Rattle.lx_form.specs.declared.file.Side.TheVariants as side
 use Rattle.lx_form.specs.declared.file.Signal.{Signal}
 use Rattle.lx_form.specs.declared.file.Line.{Line}
 use Rattle.lx_form.specs.declared.file.File.{File}
-use Rattle.lx_form.specs.Form.{are_signals, are_lines, width_of, side_width}
+use Rattle.lx_form.specs.Form.{are_signals, are_lines, side_width}
 use Rattle.lx_translate.specs.FormCircuit as form
 use Rattle.lx_translate.specs.FormCircuit.{place_of, letter_at, op_of, term_of, comb_of, signal_of}
 use Rattle.lx_translate.specs.FormDesign.{signal_node, signal_nodes, operator_node, operator_nodes, side_place, place_after, line_target, line_stmts, design_signal, design_of}
 use Rattle.lx_translate.proofs.Bools.{both}
-use Rattle.lx_translate.proofs.Facts.{LineFits, line_fits, BothMade, both_made, signal_fits}
+use Rattle.lx_translate.proofs.Facts.{line_fits, both_made}
 use Rattle.lx_translate.proofs.Circ.{made_at}
 use Rattle.lx_translate.proofs.Places.{Tail, tail_all, tail_after, tail_here, tail_next, places_long, each_lower}
 use Rattle.lx_translate.proofs.DesignNodes.{place_within, NodeAt, OfSignal, OfNot, OfBoth, node_is, signal_there}
@@ -107,9 +106,9 @@ stand_from f h j k (l ∷ ls) g s t e =
         value = side_stands f h k l.side (operator_nodes ss ls) fits.some e;
       },
       stand_from f h (j + 1) (place_after k l.side) ls fits.others
-      (tail_next d.stmts j assigned rest s)
-      (tail_next d.targets j (line_target ss l) (map (line_target ss) ls) t)
-      (after_operator ss d.exprs k l.side (operator_nodes ss ls) e),
+          (tail_next d.stmts j assigned rest s)
+          (tail_next d.targets j (line_target ss l) (map (line_target ss) ls) t)
+          (after_operator ss d.exprs k l.side (operator_nodes ss ls) e),
     )
 
 pub lines_stand : (f : File) → are_lines f.signals f.lines ≡ true → LinesStand (design_of f) f.signals 0 (length f.signals) f.lines

@@ -1,19 +1,12 @@
 -- The design of a description keeps what designs keep, and is lowered.
-use Rattle.std.proofs.Common.{◌≡◌, ℕ, zero, suc, ◌+◌, ◌<◌, ◌≤◌, Bool, true, false, ◌&&◌, ◌||◌, not, max, List, [], ◌∷◌, ◌++◌, length, map, Option, Some, None, refl, sym, ap, ap₂, subst, ◌∙◌, arith, le-leb, lt-ltb, eqb, eq-eqb, leb, nat_lt, codes}
-use Rattle.std.specs.Prelude.{slice_get, slice_index, slice_index_or, IsTrue, nat_le, nat_eq}
-use Rattle.std.specs.List.{list_all, list_any}
-use Rattle.std.specs.Str.{bytes_eq}
-use Rattle.std.proofs.lemmas.Bool.{and_parts, and_from}
+use Rattle.std.proofs.Common.{◌≡◌, ℕ, zero, suc, ◌+◌, ◌<◌, ◌≤◌, true, List, [], ◌∷◌, ◌++◌, length, map, Some, None, refl, sym, ap, subst, ◌∙◌, arith, le-leb, lt-ltb, eq-eqb, nat_lt}
+use Rattle.std.specs.Prelude.{slice_get, slice_index_or}
+use Rattle.std.proofs.lemmas.Bool.{and_from}
 use Rattle.std.proofs.lemmas.List.{length-map, length-append}
 use Rattle.lx_num.specs.declared.Shape.{Shape}
 use Rattle.lx_num.specs.Ints.{unsigned}
-use Rattle.lx_tables.specs.declared.operators.Op.{Op}
-use Rattle.lx_tables.specs.declared.operators.Op.TheVariants as op
-use Rattle.lx_tables.specs.PythonWords.{python_words, is_python_word}
-use Rattle.lx_circuit.specs.Terms as tree
-use Rattle.lx_circuit.specs.Terms.{Term}
-use Rattle.lx_circuit.specs.Operands.{is_unary, is_binary}
-use Rattle.lx_circuit.specs.Shapes.{Shapes, shape_of, fault_of, too_wide, joined, joined_fault, binary_fault, binary_shape}
+use Rattle.lx_circuit.specs.Operands.{is_binary}
+use Rattle.lx_circuit.specs.Shapes.{fault_of, too_wide, joined, joined_fault, binary_fault}
 use Rattle.lx_circuit.specs.Statements as statement
 use Rattle.lx_circuit.specs.Statements.{Block}
 use Rattle.lx_circuit.specs.Circuit.{nothing}
@@ -24,10 +17,9 @@ use Rattle.lx_fhdl.specs.Stmts.{node_target, target_at}
 use Rattle.lx_fhdl.specs.Instance.{the_signal, the_expr, the_target, the_stmt}
 use Rattle.lx_fhdl.specs.Designs as design
 use Rattle.lx_fhdl.specs.Designs.{made_of, shapes}
-use Rattle.lx_fhdl.specs.Keeping.{EachOf, NamesBelow, TakesOperands, IsSignal, TargetStands, StmtStands, ListStands, Keeps, block_depth, stmt_depth, is_identifier, is_spelled, is_first}
-use Rattle.lx_fhdl.specs.Lowered.{IsPlain, ArePlain, is_no_pick, IsLowered}
+use Rattle.lx_fhdl.specs.Keeping.{EachOf, NamesBelow, TakesOperands, IsSignal, TargetStands, StmtStands, ListStands, Keeps, block_depth, is_identifier}
+use Rattle.lx_fhdl.specs.Lowered.{ArePlain, is_no_pick, IsLowered}
 use Rattle.lx_fhdl.specs.declared.exprs.Expr.{Expr}
-use Rattle.lx_fhdl.specs.declared.exprs.Expr.TheVariants.{Const, Sig, Unary, Binary, Mux, Cat, Pick, Replicate, Slice}
 use Rattle.lx_fhdl.specs.declared.exprs.SigId.{SigId}
 use Rattle.lx_fhdl.specs.declared.stmts.Target.{Target}
 use Rattle.lx_fhdl.specs.declared.stmts.Target.TheVariants.{Whole}
@@ -45,10 +37,10 @@ use Rattle.lx_form.specs.declared.file.Side.TheVariants as side
 use Rattle.lx_form.specs.declared.file.Signal.{Signal}
 use Rattle.lx_form.specs.declared.file.Line.{Line}
 use Rattle.lx_form.specs.declared.file.File.{File}
-use Rattle.lx_form.specs.Form.{is_lower, is_signal, are_signals, are_lines, width_of, side_width}
-use Rattle.lx_translate.specs.FormCircuit.{place_of, op_of, term_of, comb_of}
+use Rattle.lx_form.specs.Form.{are_signals, are_lines, side_width}
+use Rattle.lx_translate.specs.FormCircuit.{place_of, op_of, comb_of}
 use Rattle.lx_translate.specs.FormDesign.{signal_nodes, signal_node, operator_node, operator_nodes, side_place, place_after, line_target, line_stmts, design_signal, design_of}
-use Rattle.lx_translate.proofs.Facts.{LineFits, line_fits, both_made, SignalFits, signal_fits}
+use Rattle.lx_translate.proofs.Facts.{line_fits, signal_fits}
 use Rattle.lx_translate.proofs.Circ.{zero_fits}
 use Rattle.lx_translate.proofs.Words.{letter_identifier}
 use Rattle.lx_translate.proofs.Places.{places_long}

@@ -1,31 +1,27 @@
 -- The design of a description can be written.
-use Rattle.std.proofs.Common.{◌≡◌, ℕ, zero, suc, ◌+◌, ◌<◌, ◌≤◌, Bool, true, false, ◌&&◌, not, eqb, List, [], ◌∷◌, length, map, refl, sym, ap, subst, ◌∙◌, arith, ne_eqb}
-use Rattle.std.specs.Prelude.{IsTrue, codes}
+use Rattle.std.proofs.Common.{◌≡◌, ℕ, ◌+◌, ◌<◌, true, false, not, eqb, List, [], ◌∷◌, map, refl, sym, subst, ◌∙◌, arith, ne_eqb}
 use Rattle.std.specs.List.{list_all, list_any}
 use Rattle.std.specs.Str.{bytes_eq}
-use Rattle.std.proofs.lemmas.Bool.{and_parts, and_from, eqb-false}
+use Rattle.std.proofs.lemmas.Bool.{and_from, eqb-false}
 use Rattle.std.proofs.lemmas.List.{length-map}
 use Rattle.lx_circuit.specs.Circuit as circuit
 use Rattle.lx_circuit.specs.Circuit.{Circuit}
 use Rattle.lx_circuit.specs.Reads.{HasOrder}
-use Rattle.lx_vtext.specs.Tree.{Name}
 use Rattle.lx_vtext.specs.Names.{is_name}
-use Rattle.lx_vtext.specs.Printed.{number_text}
 use Rattle.lx_fhdl.specs.Instance.{the_signal}
 use Rattle.lx_fhdl.specs.Designs as design
 use Rattle.lx_fhdl.specs.Designs.{signal_number}
 use Rattle.lx_fhdl.specs.Keeping.{is_distinct}
-use Rattle.lx_fhdl.specs.declared.exprs.SigId.{SigId}
 use Rattle.lx_emission.specs.Naming.{node_name, is_among, NamesFit}
 use Rattle.lx_emission.specs.Emission.{places_from}
 use Rattle.lx_emission.specs.Emits.{are_once, none_is_reset, PortsFit, CanBeEmitted}
 use Rattle.lx_form.specs.declared.file.Signal.{Signal}
 use Rattle.lx_form.specs.declared.file.File.{File}
 use Rattle.lx_form.specs.Form.{are_signals, are_lines, width_of}
-use Rattle.lx_translate.specs.FormCircuit as form
-use Rattle.lx_translate.specs.FormDesign.{signal_name, names_of, design_signal, design_of}
+use Rattle.lx_translate.specs.FormDesign.{design_signal, design_of}
+use Rattle.lx_translate.specs.FormNames.{signal_name, names_of}
 use Rattle.lx_translate.proofs.Bools.{and_true, and_false, is_not, neither}
-use Rattle.lx_translate.proofs.Facts.{SignalFits, signal_fits, other_letter}
+use Rattle.lx_translate.proofs.Facts.{signal_fits, other_letter}
 use Rattle.lx_translate.proofs.Circ.{has_order}
 use Rattle.lx_translate.proofs.Words.{letter_name}
 use Rattle.lx_translate.proofs.DesignCircuit.{circuit_is}

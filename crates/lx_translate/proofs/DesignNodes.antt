@@ -1,15 +1,12 @@
 -- The nodes, targets and statements of the design of a description.
-use Rattle.std.proofs.Common.{◌≡◌, ℕ, zero, suc, ◌+◌, ◌<◌, ◌≤◌, Bool, true, false, List, [], ◌∷◌, ◌++◌, length, map, flat_map, Option, Some, None, refl, sym, ap, subst, ◌∙◌, arith, inl, inr, eq-eqb, ne_eqb}
+use Rattle.std.proofs.Common.{◌≡◌, ℕ, ◌+◌, ◌<◌, ◌≤◌, true, List, [], ◌∷◌, ◌++◌, length, map, Some, refl, arith, inl, inr, eq-eqb, ne_eqb}
 use Rattle.std.specs.Prelude.{slice_get}
 use Rattle.std.proofs.lemmas.Bool.{cases_eq}
-use Rattle.std.proofs.lemmas.List.{length-append, length-map}
-use Rattle.lx_tables.specs.declared.operators.Op.{Op}
+use Rattle.std.proofs.lemmas.List.{length-map}
 use Rattle.lx_tables.specs.declared.operators.Op.TheVariants as op
-use Rattle.lx_arena.specs.Lower.{EachLower}
 use Rattle.lx_fhdl.specs.declared.exprs.Expr.{Expr}
-use Rattle.lx_fhdl.specs.declared.exprs.Expr.TheVariants.{Const, Sig, Unary, Binary, Mux, Cat, Pick, Replicate, Slice}
-use Rattle.lx_fhdl.specs.Below.{expr_below}
-use Rattle.lx_fhdl.specs.Instance.{the_signal, the_expr}
+use Rattle.lx_fhdl.specs.declared.exprs.Expr.TheVariants.{Unary, Binary}
+use Rattle.lx_fhdl.specs.Instance.{the_expr}
 use Rattle.lx_emission.specs.Emission.{places_from}
 use Rattle.lx_form.specs.declared.file.Operator.{Operator}
 use Rattle.lx_form.specs.declared.file.Side.{Side}
@@ -19,8 +16,8 @@ use Rattle.lx_form.specs.declared.file.Line.{Line}
 use Rattle.lx_form.specs.declared.file.File.{File}
 use Rattle.lx_form.specs.Form.{are_lines, width_of, side_width}
 use Rattle.lx_translate.specs.FormCircuit.{place_of, op_of}
-use Rattle.lx_translate.specs.FormDesign.{signal_node, operator_node, signal_nodes, operator_nodes, side_place, place_after, design_of}
-use Rattle.lx_translate.proofs.Facts.{LineFits, line_fits, BothMade, both_made}
+use Rattle.lx_translate.specs.FormDesign.{signal_node, operator_node, signal_nodes, operator_nodes, design_of}
+use Rattle.lx_translate.proofs.Facts.{line_fits, both_made}
 use Rattle.lx_translate.proofs.Places.{EachAt, each_at-append, each_at-get, in_first, places_long, place_there}
 
 -- the place of a signal that is made is among the signals

@@ -1,5 +1,5 @@
 -- What a file of the form keeps, signal by signal and line by line.
-use Rattle.std.proofs.Common.{◌≡◌, ℕ, ◌≤◌, ◌<◌, Bool, true, false, ◌&&◌, ◌||◌, not, cond, eqb, ltb, leb, List, [], ◌∷◌, refl, sym, ap, ◌∙◌, arith, inl, inr, eqb-true, eq-eqb, ne_eqb}
+use Rattle.std.proofs.Common.{◌≡◌, ℕ, ◌≤◌, ◌<◌, Bool, true, false, ◌&&◌, not, cond, eqb, ltb, leb, List, [], ◌∷◌, refl, sym, ◌∙◌, arith, inl, inr, eqb-true, eq-eqb, ne_eqb}
 use Rattle.std.proofs.lemmas.Bool.{and_parts, leb-true, ltb-true, lt-ltb, cases_eq}
 use Rattle.lx_form.specs.declared.file.Operator.{Operator}
 use Rattle.lx_form.specs.declared.file.Operator.TheVariants as operator
@@ -8,7 +8,7 @@ use Rattle.lx_form.specs.declared.file.Side.TheVariants as side
 use Rattle.lx_form.specs.declared.file.Signal.{Signal}
 use Rattle.lx_form.specs.declared.file.Line.{Line}
 use Rattle.lx_form.specs.Form.{is_lower, is_signal, are_signals, width_of, side_width, result_width, has_widths, is_assigned, reads_some, are_lines}
-use Rattle.lx_translate.proofs.Bools.{not_true, or_false}
+use Rattle.lx_translate.proofs.Bools.{not_true}
 
 pub record SignalFits (s : Signal) (ss : List Signal) : Type 0 where
   pub letter : is_lower s.letter ≡ true

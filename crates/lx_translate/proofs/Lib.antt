@@ -17,3 +17,4 @@ pub mod DesignCircuit
 pub mod Words
 pub mod DesignKeeps
 pub mod DesignModule
+pub mod DesignMade

@@ -1,5 +1,5 @@
 -- Items of lists at their places.
-use Rattle.std.proofs.Common.{◌≡◌, ℕ, zero, suc, ◌+◌, ◌<◌, Bool, true, List, [], ◌∷◌, ◌++◌, length, map, Option, Some, None, refl, sym, ap, subst, ◌∙◌, arith}
+use Rattle.std.proofs.Common.{◌≡◌, ℕ, zero, suc, ◌+◌, ◌<◌, Bool, true, List, [], ◌∷◌, ◌++◌, length, map, drop, append_assoc, Option, Some, None, refl, sym, ap, subst, ◌∙◌, arith}
 use Rattle.std.specs.Prelude.{slice_get, IfSome, IsTrue}
 use Rattle.lx_arena.specs.Lower.{EachLower}
 use Rattle.lx_emission.specs.Emission.{places_from}
@@ -66,6 +66,20 @@ place_there f k n zero (x ∷ xs) same lt =
     let e : k ≡ n = omega arith in
     ap (λ (j : ℕ). Some (f j)) e
 place_there f k n (suc i) (x ∷ xs) same lt = place_there f (k + 1) n i xs (omega arith) (omega arith)
+
+places_left : {T : Type 0} (n k : ℕ) (xs : List T) → k < length xs → places_from n (drop k xs) ≡ n ∷ places_from (n + 1) (drop (k + 1) xs)
+places_left n k [] lt = absurd (omega arith)
+places_left n zero (x ∷ xs) lt = refl
+places_left n (suc k) (x ∷ xs) lt =
+    let e : suc k + 1 ≡ suc (k + 1) = omega arith in
+    places_left n k xs (omega arith) ∙ ap (λ (j : ℕ). n ∷ places_from (n + 1) (drop j (x ∷ xs))) (sym e)
+
+-- one more place is done
+pub places_more : {A T : Type 0} (f : ℕ → A) (done now : List A) (k : ℕ) (xs : List T) → now ≡ done ++ f k ∷ [] → k < length xs
+    → now ++ map f (places_from (k + 1) (drop (k + 1) xs)) ≡ done ++ map f (places_from k (drop k xs))
+places_more f done now k xs e lt =
+    let rest = map f (places_from (k + 1) (drop (k + 1) xs)) in
+    ap (λ ys. ys ++ rest) e ∙ append_assoc done (f k ∷ []) rest ∙ ap (λ ps. done ++ map f ps) (sym (places_left k k xs lt))
 
 -- ---- nodes whose children are lower
 

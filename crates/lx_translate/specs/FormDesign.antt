@@ -2,7 +2,6 @@
 use Rattle.std.specs.Prelude.{ℕ, pos, false, List, [], ◌∷◌, ◌++◌, ◌+◌, map, flat_map, length}
 use Rattle.lx_num.specs.Ints.{unsigned}
 use Rattle.lx_tables.specs.declared.operators.Op.TheVariants as op
-use Rattle.lx_vtext.specs.Tree.{Name}
 use Rattle.lx_fhdl.specs.declared.exprs.Expr.{Expr}
 use Rattle.lx_fhdl.specs.declared.exprs.Expr.TheVariants.{Sig, Unary, Binary}
 use Rattle.lx_fhdl.specs.declared.stmts.Target.{Target}
@@ -72,9 +71,25 @@ design_of f = record {
   ios = map the_signal (places_from 0 f.signals);
 }
 
--- each signal's net has its letter as name
-abbrev pub signal_name : form.Signal → Name
-signal_name s = s.letter ∷ []
+-- ---- line by line
 
-abbrev pub names_of : File → List Name
-names_of f = map signal_name f.signals
+abbrev pub design_without_lines : List form.Signal → Design
+design_without_lines ss = record {
+  exprs = signal_nodes ss;
+  targets = [];
+  stmts = [];
+  signals = map design_signal ss;
+  comb = [];
+  sync = [];
+  domains = [];
+  ios = map the_signal (places_from 0 ss);
+}
+
+-- a design with one line more
+unfoldable pub with_line : List form.Signal → Line → Design → Design
+with_line ss l d = record d {
+  exprs = d.exprs ++ operator_node ss l.side;
+  targets = d.targets ++ line_target ss l ∷ [];
+  stmts = d.stmts ++ Assign (the_target (length d.targets)) (the_expr (side_place ss (length d.exprs) l.side)) 0 ∷ [];
+  comb = d.comb ++ the_stmt (length d.stmts) ∷ [];
+}
