@@ -1,8 +1,8 @@
 -- The nets and the assigns of the module are well formed.
-use Rattle.std.proofs.Common.{◌≡◌, ℕ, ◌+◌, ◌≤◌, ◌<◌, Bool, true, false, ◌&&◌, ◌||◌, not, cond, eqb, leb, List, [], ◌∷◌, ◌++◌, map, length, Option, Some, None, refl, sym, ap, subst, ◌∙◌, arith, inl, inr, eq-eqb, ne_eqb}
+use Rattle.std.proofs.Common.{◌≡◌, ℕ, ◌+◌, ◌≤◌, ◌<◌, Bool, true, false, ◌&&◌, cond, eqb, leb, List, [], ◌∷◌, ◌++◌, length, Option, Some, None, refl, sym, ap, subst, ◌∙◌, arith, eq-eqb, ne_eqb}
 use Rattle.std.specs.List.{list_all}
-use Rattle.std.proofs.lemmas.Bool.{cases_eq, le-leb, and_parts}
-use Rattle.lx_vtext.specs.Tree.{Name, VExpr, Net, VNet, VDecl, NetDecl, VAssign}
+use Rattle.std.proofs.lemmas.Bool.{le-leb, and_parts}
+use Rattle.lx_vtext.specs.Tree.{VExpr, Net, VNet, NetDecl}
 use Rattle.lx_vmeaning.specs.Runs.{decl_nets, all_nets, sizes, drivers}
 use Rattle.lx_vmeaning.specs.Cycle.{net_fits, assign_fits, expr_fits, names_fit, widths_fit}
 use Rattle.lx_form.specs.declared.file.Side.{Side}
@@ -10,10 +10,10 @@ use Rattle.lx_form.specs.declared.file.Side.TheVariants as side
 use Rattle.lx_form.specs.declared.file.Signal.{Signal}
 use Rattle.lx_form.specs.declared.file.Line.{Line}
 use Rattle.lx_form.specs.Form.{are_signals, are_lines, width_of, side_width}
-use Rattle.lx_translate.specs.FormModule.{net_name, node_name, has_node, after_side, node_expr, target_expr, wire, port_of, assign, node_decls, node_assigns, driven_by, assign_of, signal_assigns, module_from}
+use Rattle.lx_translate.specs.FormModule.{net_name, node_name, has_node, after_side, node_expr, target_expr, wire, assign, node_decls, node_assigns, driven_by, assign_of, signal_assigns, module_from}
 use Rattle.lx_translate.proofs.Bools.{both}
-use Rattle.lx_translate.proofs.Facts.{SignalFits, signal_fits, LineFits, line_fits, width_most, side_most, BothMade, both_made}
-use Rattle.lx_translate.proofs.Drivers.{driver_list, node_at, side_drivers, drivers_net, drivers_node}
+use Rattle.lx_translate.proofs.Facts.{signal_fits, LineFits, line_fits, width_most, side_most, both_made}
+use Rattle.lx_translate.proofs.Drivers.{driver_list, node_at, drivers_net, drivers_node}
 use Rattle.lx_translate.proofs.Nets.{port_nets, node_nets, net_is, node_is, net_size, node_size}
 
 -- each of these signals has its width in SS

@@ -1,5 +1,5 @@
 -- Tests that are true or false.
-use Rattle.std.proofs.Common.{◌≡◌, ℕ, Bool, true, false, ◌&&◌, ◌||◌, not, refl, sym, ap, ◌∙◌}
+use Rattle.std.proofs.Common.{◌≡◌, Bool, true, false, ◌&&◌, ◌||◌, not, refl}
 
 pub and_true : (b : Bool) → (b && true) ≡ b
 and_true true = refl

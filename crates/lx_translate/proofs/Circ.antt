@@ -1,14 +1,13 @@
 -- The circuit of a description: its signals, what drives them, and an order of its reads.
-use Rattle.std.proofs.Common.{◌≡◌, ℕ, ℤ, pos, zero, suc, ◌+◌, ◌*◌, ◌/◌, ◌%◌, ◌^◌, ◌≤◌, ◌<◌, Bool, true, false, ◌&&◌, ◌||◌, not, cond, eqb, List, [], ◌∷◌, ◌++◌, map, length, Option, Some, None, slice_index_or, refl, sym, ap, subst, ◌∙◌, arith, inl, inr, ◌⊎◌, eq-eqb, ne_eqb, eqb-true}
+use Rattle.std.proofs.Common.{◌≡◌, ℕ, pos, zero, suc, ◌+◌, ◌≤◌, ◌<◌, Bool, true, false, ◌&&◌, ◌||◌, cond, eqb, List, [], ◌∷◌, map, length, Option, Some, None, slice_index_or, refl, sym, ap, subst, ◌∙◌, arith, inl, inr, ◌⊎◌, eq-eqb, ne_eqb, eqb-true}
 use Rattle.std.proofs.lemmas.Bool.{cases_eq, and_parts}
 use Rattle.std.proofs.lemmas.Nat.{pow_pos}
-use Rattle.lx_num.specs.Ints.{Fits, FitsBits, modulo, read_bits, unsigned}
+use Rattle.lx_num.specs.Ints.{FitsBits, unsigned}
 use Rattle.lx_num.proofs.Ranges.{fits_pos}
-use Rattle.lx_circuit.specs.Terms.{Term}
 use Rattle.lx_circuit.specs.Shapes.{Shapes}
 use Rattle.lx_circuit.specs.Values.{Values, value_of}
-use Rattle.lx_circuit.specs.Statements.{Block, drives_block, Piece, piece, taken_block, after_pieces, laid_over, result}
-use Rattle.lx_circuit.specs.Circuit.{Circuit, Made, Role, Input, Comb, Undriven, nothing, made, shapes, role, is_among, IsMade, KeepsShapes}
+use Rattle.lx_circuit.specs.Statements.{drives_block, taken_block, after_pieces, laid_over}
+use Rattle.lx_circuit.specs.Circuit.{nothing, made, IsMade, KeepsShapes}
 use Rattle.lx_circuit.specs.Reads.{names, reads_block, HasOrder}
 use Rattle.lx_form.specs.declared.file.Side.{Side}
 use Rattle.lx_form.specs.declared.file.Side.TheVariants as side
@@ -17,8 +16,8 @@ use Rattle.lx_form.specs.declared.file.Line.{Line}
 use Rattle.lx_form.specs.declared.file.File.{File}
 use Rattle.lx_form.specs.Form.{are_signals, are_lines, width_of, side_width, is_assigned, reads_some}
 use Rattle.lx_translate.specs.FormCircuit.{place_of, letter_at, term_of, comb_of, signal_of, circuit_of}
-use Rattle.lx_translate.proofs.Bools.{or_false, is_false}
-use Rattle.lx_translate.proofs.Facts.{SignalFits, signal_fits, other_letter, LineFits, line_fits, width_most, side_most, BothMade, both_made}
+use Rattle.lx_translate.proofs.Bools.{or_false}
+use Rattle.lx_translate.proofs.Facts.{signal_fits, LineFits, line_fits, both_made}
 
 -- ---- places
 
@@ -106,7 +105,7 @@ made_of (s ∷ ss) a p =
 pub made_is : (f : File) (a : ℕ) → 0 < width_of f.signals a → made (circuit_of f) (place_of f.signals a) ≡ record { shape = unsigned (width_of f.signals a); reset = pos 0; reset_less = false }
 made_is f a p = made_of f.signals a p
 
-zero_fits : (n : ℕ) → FitsBits n false (pos 0)
+pub zero_fits : (n : ℕ) → FitsBits n false (pos 0)
 zero_fits n = fits_pos n 0 (pow_pos n)
 
 keeps : (ss : List Signal) (x : ℕ) → are_signals ss ≡ true → IsMade (slice_index_or (map (λ s. signal_of s) ss) x nothing)

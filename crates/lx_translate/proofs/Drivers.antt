@@ -5,15 +5,15 @@ use Rattle.std.specs.Str.{bytes_eq}
 use Rattle.std.proofs.lemmas.Bool.{cases_eq}
 use Rattle.std.proofs.lemmas.List.{append-nil}
 use Rattle.lx_vtext.specs.Tree.{Name, VExpr, VAssign}
-use Rattle.lx_vmeaning.specs.Runs.{Driver, Outside, ByAssign, outside_drivers, assign_drivers, drivers, driver, first_driver}
+use Rattle.lx_vmeaning.specs.Runs.{Driver, Outside, ByAssign, outside_drivers, assign_drivers, drivers}
 use Rattle.lx_form.specs.declared.file.Side.{Side}
 use Rattle.lx_form.specs.declared.file.Signal.{Signal}
 use Rattle.lx_form.specs.declared.file.Line.{Line}
 use Rattle.lx_form.specs.Form.{are_signals, width_of, is_assigned}
 use Rattle.lx_translate.specs.FormModule.{net_name, node_name, has_node, after_side, node_expr, target_expr, port_of, assign, node_assign, node_assigns, driven_by, assign_of, signal_assigns, module_from}
-use Rattle.lx_translate.proofs.Bools.{and_true, and_false}
-use Rattle.lx_translate.proofs.Names.{net_eq, net_same, net_other, node_net, net_node, node_same, node_other}
-use Rattle.lx_translate.proofs.Facts.{SignalFits, signal_fits, other_letter}
+use Rattle.lx_translate.proofs.Bools.{and_false}
+use Rattle.lx_translate.proofs.Names.{net_same, net_other, node_net, net_node, node_same, node_other}
+use Rattle.lx_translate.proofs.Facts.{signal_fits, other_letter}
 
 abbrev pub drivers_of : Option VExpr → List Driver
 drivers_of None = []

@@ -1,5 +1,5 @@
 -- What a file of the form keeps, signal by signal and line by line.
-use Rattle.std.proofs.Common.{◌≡◌, ℕ, ◌≤◌, ◌<◌, Bool, true, false, ◌&&◌, ◌||◌, not, cond, eqb, ltb, leb, List, [], ◌∷◌, refl, sym, ap, ◌∙◌, arith, inl, inr, eqb-true, eq-eqb, ne_eqb}
+use Rattle.std.proofs.Common.{◌≡◌, ℕ, ◌≤◌, ◌<◌, Bool, true, false, ◌&&◌, not, cond, eqb, ltb, leb, List, [], ◌∷◌, refl, sym, ◌∙◌, arith, inl, inr, eqb-true, eq-eqb, ne_eqb}
 use Rattle.std.proofs.lemmas.Bool.{and_parts, leb-true, ltb-true, lt-ltb, cases_eq}
 use Rattle.lx_form.specs.declared.file.Operator.{Operator}
 use Rattle.lx_form.specs.declared.file.Operator.TheVariants as operator
@@ -8,9 +8,10 @@ use Rattle.lx_form.specs.declared.file.Side.TheVariants as side
 use Rattle.lx_form.specs.declared.file.Signal.{Signal}
 use Rattle.lx_form.specs.declared.file.Line.{Line}
 use Rattle.lx_form.specs.Form.{is_lower, is_signal, are_signals, width_of, side_width, result_width, has_widths, is_assigned, reads_some, are_lines}
-use Rattle.lx_translate.proofs.Bools.{not_true, or_false}
+use Rattle.lx_translate.proofs.Bools.{not_true}
 
 pub record SignalFits (s : Signal) (ss : List Signal) : Type 0 where
+  pub letter : is_lower s.letter ≡ true
   pub some : 1 ≤ s.width
   pub most : s.width ≤ 64
   pub fresh : width_of ss s.letter ≡ 0
@@ -20,8 +21,9 @@ pub signal_fits : (s : Signal) (ss : List Signal) → are_signals (s ∷ ss) ≡
 signal_fits s ss h =
     let p = and_parts (is_signal s) (eqb (width_of ss s.letter) 0 && are_signals ss) h in
     let q = and_parts (eqb (width_of ss s.letter) 0) (are_signals ss) p.1 in
-    let w = and_parts (leb 1 s.width) (leb s.width 64) (and_parts (is_lower s.letter) (leb 1 s.width && leb s.width 64) p.0).1 in
-    record { some = leb-true 1 s.width w.0; most = leb-true s.width 64 w.1; fresh = eqb-true (width_of ss s.letter) 0 q.0; others = q.1 }
+    let l = and_parts (is_lower s.letter) (leb 1 s.width && leb s.width 64) p.0 in
+    let w = and_parts (leb 1 s.width) (leb s.width 64) l.1 in
+    record { letter = l.0; some = leb-true 1 s.width w.0; most = leb-true s.width 64 w.1; fresh = eqb-true (width_of ss s.letter) 0 q.0; others = q.1 }
 
 pub record LineFits (ss : List Signal) (l : Line) (ls : List Line) : Type 0 where
   pub some : 0 < side_width ss l.side

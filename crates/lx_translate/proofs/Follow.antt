@@ -1,23 +1,23 @@
 -- What is settled for the circuit has patterns that are settled for the module, line by line.
-use Rattle.std.proofs.Common.{◌≡◌, ℕ, ℤ, pos, zero, suc, ◌+◌, ◌*◌, ◌/◌, ◌%◌, ◌^◌, ◌≤◌, ◌<◌, Bool, true, false, ◌&&◌, ◌||◌, not, cond, eqb, List, [], ◌∷◌, ◌++◌, map, length, Option, Some, None, refl, sym, ap, subst, ◌∙◌, arith, inl, inr, eq-eqb, ne_eqb, eqb-true}
+use Rattle.std.proofs.Common.{◌≡◌, ℕ, ℤ, pos, ◌+◌, ◌/◌, ◌%◌, ◌^◌, ◌<◌, Bool, true, false, ◌||◌, cond, eqb, List, [], ◌∷◌, map, length, Option, Some, None, refl, sym, ap, subst, ◌∙◌, arith, inl, inr, eq-eqb, ne_eqb}
 use Rattle.std.specs.Prelude.{is_some}
 use Rattle.std.proofs.lemmas.Bool.{cases_eq}
 use Rattle.std.proofs.lemmas.Nat.{pow_pos}
 use Rattle.std.proofs.lemmas.List.{length-map}
 use Rattle.std.proofs.Math.Nat.{mod-eq_of_lt, div-eq_of_lt}
-use Rattle.lx_num.specs.Ints.{Fits, FitsBits, modulo, read_bits, unsigned}
+use Rattle.lx_num.specs.Ints.{Fits, modulo, read_bits, unsigned}
 use Rattle.lx_num.proofs.Ints.{modulo-below, modulo-modulo}
 use Rattle.lx_circuit.specs.Values.{Values, value_of}
-use Rattle.lx_circuit.specs.Statements.{drives_block, laid_over, taken_block, after_pieces, result}
-use Rattle.lx_circuit.specs.Circuit.{Circuit, Made, Role, Input, Comb, Sync, Undriven, made, shapes, role, is_among, by_role, IsSettled, InputsFit, KeepsShapes, next_state, first_state}
+use Rattle.lx_circuit.specs.Statements.{drives_block, laid_over, taken_block, after_pieces}
+use Rattle.lx_circuit.specs.Circuit.{Made, Role, Input, Comb, Sync, Undriven, shapes, role, is_among, by_role, IsSettled}
 use Rattle.lx_circuit.proofs.Fitting.{settled_fits}
 use Rattle.lx_vtext.specs.Tree.{Name, VExpr, Net}
 use Rattle.lx_vmeaning.specs.Meaning.{Valuation, assigned}
-use Rattle.lx_vmeaning.specs.Runs.{Driver, Outside, ByAssign, sizes, driver, first_driver, by_driver, IsVSettled, v_next, v_first}
+use Rattle.lx_vmeaning.specs.Runs.{Driver, Outside, ByAssign, sizes, driver, first_driver, by_driver, IsVSettled}
 use Rattle.lx_vmeaning.specs.Cycle.{HasCycleMeaning}
 use Rattle.lx_vmeaning.proofs.Views as v_views
 use Rattle.lx_agree.specs.Agreement.{SameInputs}
-use Rattle.lx_agree.specs.Following.{SameState, SameValues, Settles, Steps, Follows}
+use Rattle.lx_agree.specs.Following.{Follows}
 use Rattle.lx_form.specs.declared.file.Side.{Side}
 use Rattle.lx_form.specs.declared.file.Side.TheVariants as side
 use Rattle.lx_form.specs.declared.file.Signal.{Signal}
@@ -25,14 +25,14 @@ use Rattle.lx_form.specs.declared.file.Line.{Line}
 use Rattle.lx_form.specs.declared.file.File.{File}
 use Rattle.lx_form.specs.Form.{are_signals, are_lines, width_of, side_width, is_assigned, reads_some}
 use Rattle.lx_translate.specs.FormCircuit.{place_of, letter_at, term_of, comb_of, signal_of, circuit_of}
-use Rattle.lx_translate.specs.FormModule.{net_name, node_name, has_node, after_side, node_expr, target_expr, driven_by, module_from, module_of, names_of}
-use Rattle.lx_translate.proofs.Bools.{or_false, neither, is_false}
-use Rattle.lx_translate.proofs.Facts.{LineFits, line_fits, BothMade, both_made}
+use Rattle.lx_translate.specs.FormModule.{net_name, node_name, has_node, after_side, node_expr, target_expr, driven_by, module_of, names_of}
+use Rattle.lx_translate.proofs.Bools.{or_false, neither}
+use Rattle.lx_translate.proofs.Facts.{LineFits, line_fits, both_made}
 use Rattle.lx_translate.proofs.Drivers.{driver_list, node_at, side_drivers, drivers_net, drivers_node, is_driven}
 use Rattle.lx_translate.proofs.Nets.{plain, net_size, node_size}
 use Rattle.lx_translate.proofs.Assigns.{AllNodes, all_nodes}
-use Rattle.lx_translate.proofs.Circ.{place_test, letter_of_place, MadeAt, made_at, made_is, keeps_shapes, drives_is, assigned_side, left_by, left_is}
-use Rattle.lx_translate.proofs.Operators.{IsNatural, natural, Operand, Operands, op_is}
+use Rattle.lx_translate.proofs.Circ.{letter_of_place, made_at, made_is, keeps_shapes, drives_is, assigned_side, left_by, left_is}
+use Rattle.lx_translate.proofs.Operators.{natural, Operand, Operands, op_is}
 
 -- each of these lines is the one that assigns its target
 abbrev AllTargets : (ℕ → Option VExpr) → (ℕ → Option Side) → ℕ → List Line → Type 0

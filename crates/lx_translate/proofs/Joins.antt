@@ -1,12 +1,11 @@
 -- Pieces of text that are appended one after the other.
-use Rattle.std.proofs.Common.{◌≡◌, ◌≢◌, ℕ, zero, suc, ◌<◌, ◌^◌, ◌+◌, List, [], ◌∷◌, ◌++◌, flat_map, refl, sym, ap, ◌∙◌, append_assoc, arith, ne_eqb, eqb, false}
+use Rattle.std.proofs.Common.{◌≡◌, ℕ, zero, suc, ◌<◌, ◌^◌, List, [], ◌++◌, sym, ap, ◌∙◌, append_assoc, arith, ne_eqb, eqb, false}
 use Rattle.std.specs.Prelude.{codes}
 use Rattle.std.specs.Fmt.{decimal}
 use Rattle.std.proofs.lemmas.List.{append-nil}
-use Rattle.std.proofs.lemmas.List.Concat.{flat_map-append}
 use Rattle.std.proofs.lemmas.Fmt.{decimal_digit, decimal-digits_of}
 use Rattle.lx_vtext.specs.Tree.{Name, VExpr}
-use Rattle.lx_vtext.specs.Printed.{number_text, head_text, net_text, bits_text, net_hi, assign_text, expr_text, port_text, direction_text}
+use Rattle.lx_vtext.specs.Printed.{number_text, head_text, net_text, bits_text, net_hi, assign_text, expr_text}
 use Rattle.lx_translate.specs.FormModule.{wire, assign}
 use Rattle.lx_translate.specs.Pieces.{wire_front}
 

@@ -1,22 +1,21 @@
 -- The module of a description has a text: its names are names, and its brackets nest within bounds.
-use Rattle.std.proofs.Common.{◌≡◌, ℕ, ◌≤◌, ◌<◌, ◌+◌, Bool, true, false, ◌&&◌, ◌||◌, not, cond, eqb, leb, List, [], ◌∷◌, ◌++◌, map, length, ne_eqb, eq-eqb, eqb-true, refl, sym, ap, ◌∙◌, arith, codes}
-use Rattle.std.specs.Prelude.{Option, Some, None, IsTrue, nat_le, nat_eq, slice_index, if◌then◌else◌}
+use Rattle.std.proofs.Common.{◌≡◌, ℕ, ◌≤◌, ◌<◌, Bool, true, false, ◌&&◌, ◌||◌, not, cond, eqb, leb, List, [], ◌∷◌, ◌++◌, map, length, ne_eqb, eq-eqb, eqb-true, refl, sym, ap, ◌∙◌, arith}
+use Rattle.std.specs.Prelude.{Some, IsTrue, nat_le, nat_eq, slice_index}
 use Rattle.std.specs.List.{list_all, list_any, AllByRecursion}
 use Rattle.std.specs.Str.{bytes_eq}
-use Rattle.std.proofs.lemmas.Bool.{and_parts, and_from, leb-true, false≢true}
+use Rattle.std.proofs.lemmas.Bool.{and_parts, and_from, false≢true}
 use Rattle.lx_tables.specs.VerilogWords.{verilog_words, is_verilog_word}
 use Rattle.lx_vtext.specs.Names.{is_digit, is_name_start, is_name_byte, is_spelled, is_name}
-use Rattle.lx_vtext.specs.Tree.{Name, VExpr, Net, Unary, Binary, VNet, VPort, VDecl, NetDecl, VAssign, VModule}
+use Rattle.lx_vtext.specs.Tree.{Name, NetDecl}
 use Rattle.lx_vtext.specs.Printed.{number_text}
 use Rattle.lx_vtext.specs.Fits.{IsExpr, IsNet, IsPort, IsDecl, IsAssign, IsModule}
 use Rattle.lx_vtext.proofs.Pieces.{number_back}
-use Rattle.lx_form.specs.declared.file.Operator.{Operator}
 use Rattle.lx_form.specs.declared.file.Side.{Side}
 use Rattle.lx_form.specs.declared.file.Side.TheVariants as side
 use Rattle.lx_form.specs.declared.file.Signal.{Signal}
 use Rattle.lx_form.specs.declared.file.Line.{Line}
 use Rattle.lx_form.specs.declared.file.File.{File}
-use Rattle.lx_form.specs.Form.{is_lower, is_form, is_signal, are_signals, has_signals, is_class_name, width_of, side_width, is_assigned, are_lines}
+use Rattle.lx_form.specs.Form.{is_lower, is_form, is_signal, are_signals, has_signals, is_class_name, width_of, side_width, are_lines}
 use Rattle.lx_translate.specs.FormModule.{net_name, node_name, has_node, after_side, node_expr, target_expr, wire, port_of, node_decl, node_decls, assign, node_assign, node_assigns, driven_by, assign_of, signal_assigns, module_from, module_of}
 use Rattle.lx_translate.proofs.Facts.{signal_fits, line_fits, both_made}
 

@@ -11,3 +11,10 @@ pub mod Operators
 pub mod Follow
 pub mod Theorem
 pub mod Lawful
+pub mod Places
+pub mod DesignNodes
+pub mod DesignCircuit
+pub mod Words
+pub mod DesignKeeps
+pub mod DesignModule
+pub mod DesignMade

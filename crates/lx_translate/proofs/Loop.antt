@@ -1,8 +1,8 @@
 -- No net of the module depends on itself.
-use Rattle.std.proofs.Common.{◌≡◌, ℕ, zero, suc, ◌+◌, ◌≤◌, ◌<◌, Bool, true, false, ◌&&◌, ◌||◌, not, cond, eqb, List, [], ◌∷◌, ◌++◌, map, Option, Some, None, refl, sym, ap, subst, ◌∙◌, arith, inl, inr, ◌⊎◌}
+use Rattle.std.proofs.Common.{◌≡◌, ℕ, zero, suc, ◌+◌, ◌≤◌, ◌<◌, Bool, true, false, ◌&&◌, ◌||◌, cond, eqb, List, [], ◌∷◌, ◌++◌, map, Option, Some, None, refl, sym, ap, subst, arith, inl, inr, ◌⊎◌}
 use Rattle.std.specs.Str.{bytes_eq}
-use Rattle.lx_vtext.specs.Tree.{Name, VExpr, Net, VPort, VAssign}
-use Rattle.lx_vmeaning.specs.Runs.{Driver, Outside, ByAssign, outside_drivers, assign_drivers, driver, first_driver}
+use Rattle.lx_vtext.specs.Tree.{Name, VExpr, VPort, VAssign}
+use Rattle.lx_vmeaning.specs.Runs.{Driver, Outside, ByAssign, outside_drivers, assign_drivers, first_driver}
 use Rattle.lx_vmeaning.specs.Cycle.{reads, driver_reads, HasNoLoop}
 use Rattle.lx_form.specs.declared.file.Side.{Side}
 use Rattle.lx_form.specs.declared.file.Side.TheVariants as side
@@ -12,7 +12,7 @@ use Rattle.lx_form.specs.Form.{are_lines, is_assigned, reads_some}
 use Rattle.lx_translate.specs.FormModule.{net_name, node_name, has_node, after_side, node_expr, target_expr, port_of, assign, node_assign, node_assigns, driven_by, assign_of, signal_assigns, module_from}
 use Rattle.lx_translate.proofs.Bools.{and_false, or_false}
 use Rattle.lx_translate.proofs.Names.{net_same, net_other, node_net, net_node, node_same, node_other, same_name}
-use Rattle.lx_translate.proofs.Facts.{LineFits, line_fits}
+use Rattle.lx_translate.proofs.Facts.{line_fits}
 
 -- a name that a line drives is above all names of earlier lines
 abbrev lift : ℕ → Bool → Bool → ℕ

@@ -1,10 +1,10 @@
 -- How the nets of the module are declared.
-use Rattle.std.proofs.Common.{◌≡◌, ℕ, ◌+◌, ◌≤◌, ◌<◌, Bool, true, false, ◌&&◌, ◌||◌, not, cond, eqb, List, [], ◌∷◌, ◌++◌, map, Option, Some, None, refl, sym, ap, ◌∙◌, arith, inl, inr, eq-eqb, ne_eqb}
+use Rattle.std.proofs.Common.{◌≡◌, ℕ, ◌+◌, ◌<◌, Bool, true, false, ◌&&◌, cond, eqb, List, [], ◌∷◌, ◌++◌, map, Option, Some, None, refl, ap, ◌∙◌, arith, inl, inr, eq-eqb, ne_eqb}
 use Rattle.std.specs.List.{list_any}
 use Rattle.std.specs.Str.{bytes_eq}
 use Rattle.std.proofs.lemmas.Bool.{cases_eq}
 use Rattle.std.proofs.lemmas.List.{append-nil}
-use Rattle.lx_vtext.specs.Tree.{Name, VNet, VDecl, NetDecl, VMemory}
+use Rattle.lx_vtext.specs.Tree.{Name, VNet, NetDecl}
 use Rattle.lx_vmeaning.specs.Meaning.{Declared}
 use Rattle.lx_vmeaning.specs.Runs.{decl_nets, decl_memories, all_nets, net_named, sizes}
 use Rattle.lx_vmeaning.specs.Cycle.{is_distinct, declared_names}
@@ -12,10 +12,9 @@ use Rattle.lx_form.specs.declared.file.Side.{Side}
 use Rattle.lx_form.specs.declared.file.Signal.{Signal}
 use Rattle.lx_form.specs.declared.file.Line.{Line}
 use Rattle.lx_form.specs.Form.{are_signals, width_of, side_width}
-use Rattle.lx_translate.specs.FormModule.{net_name, node_name, has_node, after_side, wire, port_of, node_decl, node_decls, module_from}
-use Rattle.lx_translate.proofs.Bools.{and_true, and_false, both, is_not, neither}
+use Rattle.lx_translate.specs.FormModule.{net_name, node_name, has_node, wire, port_of, node_decls, module_from}
 use Rattle.lx_translate.proofs.Names.{net_same, net_other, node_net, net_node, node_same, node_other}
-use Rattle.lx_translate.proofs.Facts.{SignalFits, signal_fits, other_letter}
+use Rattle.lx_translate.proofs.Facts.{signal_fits, other_letter}
 use Rattle.lx_translate.proofs.Drivers.{node_at}
 
 abbrev pub port_nets : List Line → List Signal → List VNet

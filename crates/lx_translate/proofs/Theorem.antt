@@ -1,14 +1,14 @@
 -- The module of a description gives what the description means.
-use Rattle.std.proofs.Common.{◌≡◌, ℕ, ◌≤◌, ◌<◌, Bool, true, false, ◌&&◌, not, cond, List, [], ◌∷◌, ◌++◌, map, refl, sym, ap, ap₂, ◌∙◌, arith}
+use Rattle.std.proofs.Common.{◌≡◌, ℕ, ◌≤◌, ◌<◌, Bool, true, false, ◌&&◌, not, List, [], ◌∷◌, map, refl, sym, ap, ◌∙◌, arith}
 use Rattle.std.proofs.lemmas.Bool.{and_parts}
 use Rattle.lx_num.specs.Ints.{unsigned}
-use Rattle.lx_circuit.specs.Circuit.{Role, role, shapes}
+use Rattle.lx_circuit.specs.Circuit.{role, shapes}
 use Rattle.lx_vmeaning.specs.Cycle.{HasCycleMeaning}
-use Rattle.lx_agree.specs.Agreement.{HasPorts, PortOf, shown_port, signal_port, is_input_role}
+use Rattle.lx_agree.specs.Agreement.{PortOf, shown_port, signal_port, is_input_role}
 use Rattle.lx_agree.proofs.Agree.{agrees}
 use Rattle.lx_form.specs.declared.file.Signal.{Signal}
 use Rattle.lx_form.specs.declared.file.File.{File}
-use Rattle.lx_form.specs.Form.{is_class_name, has_signals, are_signals, are_lines, width_of, is_assigned, is_form}
+use Rattle.lx_form.specs.Form.{is_class_name, has_signals, are_signals, are_lines, width_of, is_assigned}
 use Rattle.lx_translate.specs.FormCircuit.{place_of, letter_at, circuit_of}
 use Rattle.lx_translate.specs.FormModule.{net_name, port_of, module_of, names_of}
 use Rattle.lx_translate.specs.Translation.{IsTranslationLaw}

@@ -1,4 +1,6 @@
 pub mod FormCircuit
+pub mod FormDesign
 pub mod FormModule
+pub mod FormNames
 pub mod Pieces
 pub mod Translation

@@ -1,6 +1,7 @@
 //! A description of the first form becomes a Verilog module that gives what it means.
 #![tactic(auto)]
 
+pub mod designs;
 pub mod laws;
 pub mod writing;
 

@@ -1,4 +1,4 @@
-use Rattle.std.proofs.Common.{rules, ap, ◌∙◌, List, ℕ, ◌++◌}
+use Rattle.std.proofs.Common.{ap, ◌∙◌, List, ℕ, ◌++◌}
 use Rattle.std.specs.Prelude.{not}
 use Rattle.lx_form.specs.Form.{is_assigned}
 use Rattle.lx_vtext.specs.Printed.{direction_text}
