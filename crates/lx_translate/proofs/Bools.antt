@@ -19,10 +19,6 @@ not_true false e = refl
 pub is_not : (b : Bool) → b ≡ false → not b ≡ true
 is_not b e = rw e refl
 
-pub is_false : (b : Bool) → (b ≡ true → ⊥) → b ≡ false
-is_false true h = absurd (h refl)
-is_false false h = refl
-
 pub or_false : (x y : Bool) → (x || y) ≡ false → (x ≡ false) × (y ≡ false)
 or_false true y e = absurd cc
 or_false false y e = (refl, e)

@@ -3,7 +3,6 @@ use Rattle.std.proofs.Common.{◌≡◌, ℕ, ◌+◌, ◌<◌, true, List, [], 
 use Rattle.std.specs.Prelude.{slice_get}
 use Rattle.std.proofs.lemmas.Bool.{lt-ltb}
 use Rattle.std.proofs.lemmas.List.{length-map}
-use Rattle.std.proofs.lemmas.Option.{slice_get_within}
 use Rattle.lx_tables.specs.declared.operators.Op.TheVariants as op
 use Rattle.lx_arena.specs.Lower.{EachLower}
 use Rattle.lx_circuit.specs.Terms as tree
@@ -32,11 +31,11 @@ use Rattle.lx_form.specs.declared.file.Line.{Line}
 use Rattle.lx_form.specs.declared.file.File.{File}
 use Rattle.lx_form.specs.Form.{are_signals, are_lines, side_width}
 use Rattle.lx_translate.specs.FormCircuit as form
-use Rattle.lx_translate.specs.FormCircuit.{place_of, letter_at, op_of, term_of, comb_of, signal_of}
+use Rattle.lx_translate.specs.FormCircuit.{place_of, op_of, term_of, comb_of, signal_of}
 use Rattle.lx_translate.specs.FormDesign.{signal_node, signal_nodes, operator_node, operator_nodes, side_place, place_after, line_target, line_stmts, design_signal, design_of}
 use Rattle.lx_translate.proofs.Bools.{both}
 use Rattle.lx_translate.proofs.Facts.{line_fits, both_made}
-use Rattle.lx_translate.proofs.Circ.{made_at}
+use Rattle.lx_translate.proofs.Order.{placed}
 use Rattle.lx_translate.proofs.Places.{Tail, tail_all, tail_after, tail_here, tail_next, places_long, each_lower}
 use Rattle.lx_translate.proofs.DesignNodes.{place_within, NodeAt, OfSignal, OfNot, OfBoth, node_is, signal_there}
 
@@ -167,18 +166,12 @@ signals_same : (ss : List Signal) → map made_of (map design_signal ss) ≡ map
 signals_same [] = refl
 signals_same (s ∷ ss) = ap (λ (ms : List Made). signal_of s ∷ ms) (signals_same ss)
 
-letter_there : (ss : List Signal) (k : ℕ) (s : Signal) → slice_get ss k ≡ Some s → letter_at ss k ≡ s.letter
-letter_there [] k s e = absurd cc
-letter_there (t ∷ ss) zero s e = let is : t ≡ s = cc in ap (λ (x : Signal). x.letter) is
-letter_there (t ∷ ss) (suc k) s e = letter_there ss k s e
-
 -- signals stand at their places
 ios_from : (SS : List Signal) → are_signals SS ≡ true → (k : ℕ) (ss : List Signal) → Tail SS k ss → map signal_number (map the_signal (places_from k ss)) ≡ map (λ s. place_of SS s.letter) ss
 ios_from SS h k [] t = refl
 ios_from SS h k (s ∷ ss) t =
     let here = tail_here SS k s ss t in
-    let m = made_at SS k h (slice_get_within SS k s here) in
-    let same : k ≡ place_of SS s.letter = sym m.place ∙ ap (place_of SS) (letter_there SS k s here) in
+    let same : k ≡ place_of SS s.letter = sym (placed SS h k s here).place in
     ap₂ (λ (x : ℕ) (xs : List ℕ). x ∷ xs) same (ios_from SS h (k + 1) ss (tail_next SS k s ss t))
 
 pub circuit_is : (f : File) → are_signals f.signals ≡ true → are_lines f.signals f.lines ≡ true → design.circuit_of (design_of f) ≡ form.circuit_of f

@@ -1,10 +1,12 @@
 -- The design of a description keeps what designs keep, and is lowered.
-use Rattle.std.proofs.Common.{◌≡◌, ℕ, zero, suc, ◌+◌, ◌<◌, ◌≤◌, true, List, [], ◌∷◌, ◌++◌, length, map, Some, None, refl, sym, ap, subst, ◌∙◌, arith, le-leb, lt-ltb, eq-eqb, nat_lt}
+use Rattle.std.proofs.Common.{◌≡◌, ℕ, pos, false, zero, suc, ◌+◌, ◌<◌, ◌≤◌, true, List, [], ◌∷◌, ◌++◌, length, map, Some, None, refl, sym, ap, subst, ◌∙◌, arith, le-leb, lt-ltb, eq-eqb, nat_lt}
 use Rattle.std.specs.Prelude.{slice_get, slice_index_or}
 use Rattle.std.proofs.lemmas.Bool.{and_from}
 use Rattle.std.proofs.lemmas.List.{length-map, length-append}
 use Rattle.lx_num.specs.declared.Shape.{Shape}
-use Rattle.lx_num.specs.Ints.{unsigned}
+use Rattle.lx_num.specs.Ints.{FitsBits, unsigned}
+use Rattle.lx_num.proofs.Ranges.{fits_pos}
+use Rattle.std.proofs.lemmas.Nat.{pow_pos}
 use Rattle.lx_circuit.specs.Operands.{is_binary}
 use Rattle.lx_circuit.specs.Shapes.{fault_of, too_wide, joined, joined_fault, binary_fault}
 use Rattle.lx_circuit.specs.Statements as statement
@@ -41,7 +43,6 @@ use Rattle.lx_form.specs.Form.{are_signals, are_lines, side_width}
 use Rattle.lx_translate.specs.FormCircuit.{place_of, op_of, comb_of}
 use Rattle.lx_translate.specs.FormDesign.{signal_nodes, signal_node, operator_node, operator_nodes, side_place, place_after, line_target, line_stmts, design_signal, design_of}
 use Rattle.lx_translate.proofs.Facts.{line_fits, signal_fits}
-use Rattle.lx_translate.proofs.Circ.{zero_fits}
 use Rattle.lx_translate.proofs.Words.{letter_identifier}
 use Rattle.lx_translate.proofs.Places.{places_long}
 use Rattle.lx_translate.proofs.DesignNodes.{place_within, NodeAt, OfSignal, OfNot, OfBoth, node_is}
@@ -63,6 +64,9 @@ narrow_at (s ∷ ss) h (suc x) = narrow_at ss (signal_fits s ss h).others x
 narrow : (f : File) → are_signals f.signals ≡ true → (x : ℕ) → IsNarrow (shapes (design_of f) x)
 unfolding design_of design.circuit_of
 narrow f h x = narrow_at f.signals h x
+
+zero_fits : (n : ℕ) → FitsBits n false (pos 0)
+zero_fits n = fits_pos n 0 (pow_pos n)
 
 signals_keep : (ss : List Signal) → are_signals ss ≡ true → EachOf IsSignal (map design_signal ss)
 signals_keep [] h = tt

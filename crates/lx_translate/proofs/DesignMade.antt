@@ -1,7 +1,6 @@
 -- The design of a description as it is made, line by line.
 use Rattle.std.proofs.Common.{◌≡◌, ℕ, ◌+◌, ◌<◌, ◌≤◌, true, ◌&&◌, nat_lt, List, [], ◌∷◌, ◌++◌, length, map, refl, sym, ap, subst, ◌∙◌, arith, lt-ltb, append_assoc}
 use Rattle.std.specs.Prelude.{IsTrue}
-use Rattle.std.proofs.lemmas.Bool.{and_parts}
 use Rattle.std.proofs.lemmas.List.{append-nil, length-append, length-map, length_push}
 use Rattle.lx_fhdl.specs.Below.{ExprId, StmtId}
 use Rattle.lx_fhdl.specs.Instance.{the_expr, the_target, the_stmt}
@@ -19,11 +18,11 @@ use Rattle.lx_form.specs.declared.file.Side.TheVariants as side
 use Rattle.lx_form.specs.declared.file.Signal.{Signal}
 use Rattle.lx_form.specs.declared.file.Line.{Line}
 use Rattle.lx_form.specs.declared.file.File.{File}
-use Rattle.lx_form.specs.Form.{is_class_name, has_signals, are_signals, are_lines, is_form, width_of, side_width}
+use Rattle.lx_form.specs.Form.{are_lines, is_form, width_of, side_width}
 use Rattle.lx_translate.specs.FormCircuit.{place_of, op_of}
 use Rattle.lx_translate.specs.FormDesign.{signal_node, signal_nodes, operator_node, operator_nodes, side_place, place_after, line_target, line_stmts, design_of, design_without_lines, with_line}
 use Rattle.lx_translate.proofs.Bools.{both}
-use Rattle.lx_translate.proofs.Facts.{line_fits, both_made}
+use Rattle.lx_translate.proofs.Facts.{line_fits, both_made, form_fits}
 use Rattle.lx_translate.proofs.Places.{places_long}
 use Rattle.lx_translate.proofs.DesignNodes.{place_within}
 
@@ -62,12 +61,6 @@ pub record IsMade (f : File) (d : Design) (j : ℕ) (ls : List Line) : Type 0 wh
   pub stmts_there : length d.stmts ≡ j
   pub lines : are_lines f.signals ls ≡ true
 
-lines_of_form : (f : File) → IsTrue (is_form f) → are_lines f.signals f.lines ≡ true
-lines_of_form f form =
-    let parts = and_parts (is_class_name f.top) (has_signals f.signals && (are_signals f.signals && are_lines f.signals f.lines)) form in
-    let made = and_parts (has_signals f.signals) (are_signals f.signals && are_lines f.signals f.lines) parts.1 in
-    (and_parts (are_signals f.signals) (are_lines f.signals f.lines) made.1).1
-
 pub starts : (f : File) (d : Design) (ss : List Signal) (ls : List Line) → IsTrue (is_form f) → ss ≡ f.signals → ls ≡ f.lines → d ≡ design_without_lines ss → IsMade f d 0 ls
 unfolding design_of
 starts f d ss ls form p q e =
@@ -81,7 +74,7 @@ starts f d ss ls form p q e =
       signals_there = omega (arith, long);
       targets_there = refl;
       stmts_there = refl;
-      lines = lines_of_form f form;
+      lines = (form_fits f form).lines;
     } in
     subst (λ (x : Design). IsMade f x 0 ls) (sym (e ∙ ap design_without_lines p)) (subst (λ (xs : List Line). IsMade f (design_without_lines f.signals) 0 xs) (sym q) start)
 
@@ -89,12 +82,6 @@ after_side : (ss : List Signal) (es : List Expr) (x : Side) → length (es ++ op
 after_side ss es (side.Same x) = ap length (append-nil es)
 after_side ss es (side.Not x) = length_push es (Unary op.Not (the_expr (place_of ss x)))
 after_side ss es (side.Both x o y) = length_push es (Binary (op_of o) (the_expr (place_of ss x)) (the_expr (place_of ss y)))
-
-one_more : {T : Type 0} (done : List T) (x : T) (rest all now : List T) → done ++ (x ∷ rest) ≡ all → now ≡ done ++ x ∷ [] → now ++ rest ≡ all
-one_more done x rest all now whole e = ap (λ ys. ys ++ rest) e ∙ append_assoc done (x ∷ []) rest ∙ whole
-
-long_more : {T : Type 0} (done : List T) (x : T) (now : List T) (j : ℕ) → length done ≡ j → now ≡ done ++ x ∷ [] → length now ≡ j + 1
-long_more done x now j long e = ap length e ∙ length_push done x ∙ ap (λ (n : ℕ). n + 1) long
 
 -- one more line is made
 made_more : (f : File) (d : Design) (j : ℕ) (l : Line) (ls : List Line) → IsMade f d j (l ∷ ls) → IsMade f (with_line f.signals l d) (j + 1) ls

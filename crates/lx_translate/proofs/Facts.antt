@@ -1,13 +1,13 @@
 -- What a file of the form keeps, signal by signal and line by line.
-use Rattle.std.proofs.Common.{◌≡◌, ℕ, ◌≤◌, ◌<◌, Bool, true, false, ◌&&◌, not, cond, eqb, ltb, leb, List, [], ◌∷◌, refl, sym, ◌∙◌, arith, inl, inr, eqb-true, eq-eqb, ne_eqb}
-use Rattle.std.proofs.lemmas.Bool.{and_parts, leb-true, ltb-true, lt-ltb, cases_eq}
+use Rattle.std.proofs.Common.{◌≡◌, ℕ, ◌≤◌, ◌<◌, Bool, true, false, ◌&&◌, not, cond, eqb, ltb, leb, List, ◌∷◌, refl, sym, ◌∙◌, arith, inl, inr, eqb-true, eq-eqb, ne_eqb}
+use Rattle.std.specs.Prelude.{IsTrue}
+use Rattle.std.proofs.lemmas.Bool.{and_parts, leb-true, ltb-true, cases_eq}
 use Rattle.lx_form.specs.declared.file.Operator.{Operator}
-use Rattle.lx_form.specs.declared.file.Operator.TheVariants as operator
-use Rattle.lx_form.specs.declared.file.Side.{Side}
 use Rattle.lx_form.specs.declared.file.Side.TheVariants as side
 use Rattle.lx_form.specs.declared.file.Signal.{Signal}
 use Rattle.lx_form.specs.declared.file.Line.{Line}
-use Rattle.lx_form.specs.Form.{is_lower, is_signal, are_signals, width_of, side_width, result_width, has_widths, is_assigned, reads_some, are_lines}
+use Rattle.lx_form.specs.declared.file.File.{File}
+use Rattle.lx_form.specs.Form.{is_lower, is_signal, are_signals, width_of, side_width, result_width, has_widths, is_assigned, reads_some, are_lines, is_class_name, has_signals, is_form}
 use Rattle.lx_translate.proofs.Bools.{not_true}
 
 pub record SignalFits (s : Signal) (ss : List Signal) : Type 0 where
@@ -40,17 +40,6 @@ line_fits ss l ls h =
     let w = and_parts (ltb 0 (side_width ss l.side)) (eqb (width_of ss l.target) (side_width ss l.side)) p.0 in
     record { some = ltb-true 0 (side_width ss l.side) w.0; target = eqb-true (width_of ss l.target) (side_width ss l.side) w.1; fresh = not_true (is_assigned l.target ls) q.0; unread = not_true (reads_some l.side (l ∷ ls)) r.0; others = r.1 }
 
--- a made signal has 1 to 64 bits
-pub width_most : (ss : List Signal) (a : ℕ) → are_signals ss ≡ true → width_of ss a ≤ 64
-width_most [] a h = omega arith
-width_most (s ∷ ss) a h =
-    let fits = signal_fits s ss h in
-    most_of (eqb s.letter a) s.width (width_of ss a) fits.most (width_most ss a fits.others)
-  where
-    most_of : (b : Bool) (x y : ℕ) → x ≤ 64 → y ≤ 64 → cond b x y ≤ 64
-    most_of true x y p q = p
-    most_of false x y p q = q
-
 -- a signal that isn't made again has another letter
 pub other_letter : (s : Signal) (ss : List Signal) (a : ℕ) → 1 ≤ s.width → width_of (s ∷ ss) a ≡ 0 → (eqb s.letter a ≡ false) × (width_of ss a ≡ 0)
 other_letter s ss a some none =
@@ -79,22 +68,15 @@ both_made ss x y o some = by_test (ltb 0 (width_of ss x) && eqb (width_of ss y) 
         record { left = ltb-true 0 (width_of ss x) q.0; same = eqb-true (width_of ss y) (width_of ss x) q.1 }
     by_test false e p = absurd (omega (arith, p))
 
--- the width of the result of an operator on such operands
-pub both_width : (ss : List Signal) (x y : ℕ) (o : Operator) → BothMade ss x y → side_width ss (side.Both x o y) ≡ result_width o (width_of ss x)
-both_width ss x y o m =
-    let left : ltb 0 (width_of ss x) ≡ true = lt-ltb 0 (width_of ss x) m.left in
-    let same : eqb (width_of ss y) (width_of ss x) ≡ true = eq-eqb (width_of ss y) (width_of ss x) m.same in
-    rw (left, same) refl
+-- ---- the whole description
 
--- every right side has at most 64 bits
-pub side_most : (ss : List Signal) (x : Side) → are_signals ss ≡ true → side_width ss x ≤ 64
-side_most ss (side.Same x) h = width_most ss x h
-side_most ss (side.Not x) h = width_most ss x h
-side_most ss (side.Both x o y) h = by_test (ltb 0 (width_of ss x) && eqb (width_of ss y) (width_of ss x)) o
-  where
-    by_test : (b : Bool) (p : Operator) → cond b (result_width p (width_of ss x)) 0 ≤ 64
-    by_test true operator.And = width_most ss x h
-    by_test true operator.Or = width_most ss x h
-    by_test true operator.Xor = width_most ss x h
-    by_test true operator.Equal = omega arith
-    by_test false p = omega arith
+pub record FormFits (f : File) : Type 0 where
+  pub signals : are_signals f.signals ≡ true
+  pub lines : are_lines f.signals f.lines ≡ true
+
+pub form_fits : (f : File) → IsTrue (is_form f) → FormFits f
+form_fits f form =
+    let named = and_parts (is_class_name f.top) (has_signals f.signals && (are_signals f.signals && are_lines f.signals f.lines)) form in
+    let some = and_parts (has_signals f.signals) (are_signals f.signals && are_lines f.signals f.lines) named.1 in
+    let all = and_parts (are_signals f.signals) (are_lines f.signals f.lines) some.1 in
+    record { signals = all.0; lines = all.1 }

@@ -1,5 +1,5 @@
 -- The circuit that a description of the first form describes.
-use Rattle.std.specs.Prelude.{ℕ, pos, List, [], ◌∷◌, ◌+◌, false, map, if◌then◌else◌, ◌==◌, zero, suc}
+use Rattle.std.specs.Prelude.{ℕ, pos, List, [], ◌∷◌, ◌+◌, false, map, if◌then◌else◌, ◌==◌}
 use Rattle.lx_num.specs.Ints.{unsigned}
 use Rattle.lx_tables.specs.declared.operators.Op.{Op}
 use Rattle.lx_tables.specs.declared.operators.Op.TheVariants as op
@@ -18,12 +18,6 @@ use Rattle.lx_form.specs.declared.file.File.{File}
 abbrev pub place_of : List made.Signal → ℕ → ℕ
 place_of [] x = 0
 place_of (s ∷ ss) x = if s.letter == x then 0 else place_of ss x + 1
-
--- the letter of the signal at a place
-abbrev pub letter_at : List made.Signal → ℕ → ℕ
-letter_at [] k = 0
-letter_at (s ∷ ss) zero = s.letter
-letter_at (s ∷ ss) (suc k) = letter_at ss k
 
 abbrev pub op_of : Operator → Op
 op_of operator.And = op.And

@@ -1,16 +1,13 @@
-use Rattle.std.proofs.Common.{List, ap, ◌∙◌}
-use Rattle.lx_form.specs.declared.file.Signal.{Signal}
-use Rattle.lx_form.specs.declared.file.Line.{Line}
-use Rattle.lx_vtext.specs.Printed.{module_text}
-use Rattle.lx_translate.specs.FormModule.{module_from, module_of}
-use Rattle.lx_translate.proofs.Theorem.{translation}
+use Rattle.lx_vtree.specs.Modules.{module_of}
+use Rattle.lx_translate.proofs.Theorem.{made_can_be_emitted, made_gives}
 use Rattle.lx_translate.proofs.writing.top_v.Goals as goal
 
+pub emit_design-requires : goal.emit_design-requires
+emit_design-requires c = made_can_be_emitted c.args.file.now c.in_ok-design.design c.in_ok-names.names c.requires c.in_ok-design.ensures c.in_ok-names.ensures
+
 pub returns : goal.returns
-returns c =
-    let f = c.args.file.now in
-    record {
-      tree = module_of f;
-      gives = translation f c.requires;
-      written = c.in_ok-text.ensures ∙ ap (λ (ss : List Signal). module_text (module_from ss c.as_slice-2.result.now)) c.as_slice.ensures ∙ ap (λ (ls : List Line). module_text (module_from f.signals ls)) c.as_slice-2.ensures;
-    }
+returns c = record {
+  tree = module_of c.in_ok-module.module;
+  gives = made_gives c.args.file.now c.in_ok-design.design c.in_ok-names.names (module_of c.in_ok-module.module) c.requires c.in_ok-design.ensures c.in_ok-names.ensures c.in_ok-module.ensures;
+  written = c.in_ok-text.ensures.text;
+}

@@ -1,13 +1,6 @@
--- The circuit of a description: its signals, what drives them, and an order of its reads.
-use Rattle.std.proofs.Common.{◌≡◌, ℕ, pos, zero, suc, ◌+◌, ◌≤◌, ◌<◌, Bool, true, false, ◌&&◌, ◌||◌, cond, eqb, List, [], ◌∷◌, map, length, Option, Some, None, slice_index_or, refl, sym, ap, subst, ◌∙◌, arith, inl, inr, ◌⊎◌, eq-eqb, ne_eqb, eqb-true}
+-- The places of a description's signals, and an order of its reads.
+use Rattle.std.proofs.Common.{◌≡◌, ℕ, zero, suc, ◌+◌, ◌≤◌, ◌<◌, Bool, true, false, ◌&&◌, ◌||◌, cond, eqb, List, [], ◌∷◌, Some, slice_get, refl, sym, ap, subst, ◌∙◌, arith, inl, inr, ◌⊎◌, eq-eqb, ne_eqb, eqb-true}
 use Rattle.std.proofs.lemmas.Bool.{cases_eq, and_parts}
-use Rattle.std.proofs.lemmas.Nat.{pow_pos}
-use Rattle.lx_num.specs.Ints.{FitsBits, unsigned}
-use Rattle.lx_num.proofs.Ranges.{fits_pos}
-use Rattle.lx_circuit.specs.Shapes.{Shapes}
-use Rattle.lx_circuit.specs.Values.{Values, value_of}
-use Rattle.lx_circuit.specs.Statements.{drives_block, taken_block, after_pieces, laid_over}
-use Rattle.lx_circuit.specs.Circuit.{nothing, made, IsMade, KeepsShapes}
 use Rattle.lx_circuit.specs.Reads.{names, reads_block, HasOrder}
 use Rattle.lx_form.specs.declared.file.Side.{Side}
 use Rattle.lx_form.specs.declared.file.Side.TheVariants as side
@@ -15,7 +8,7 @@ use Rattle.lx_form.specs.declared.file.Signal.{Signal}
 use Rattle.lx_form.specs.declared.file.Line.{Line}
 use Rattle.lx_form.specs.declared.file.File.{File}
 use Rattle.lx_form.specs.Form.{are_signals, are_lines, width_of, side_width, is_assigned, reads_some}
-use Rattle.lx_translate.specs.FormCircuit.{place_of, letter_at, term_of, comb_of, signal_of, circuit_of}
+use Rattle.lx_translate.specs.FormCircuit.{place_of, term_of, comb_of, circuit_of}
 use Rattle.lx_translate.proofs.Bools.{or_false}
 use Rattle.lx_translate.proofs.Facts.{signal_fits, LineFits, line_fits, both_made}
 
@@ -60,111 +53,29 @@ place_test ss a b p q =
       | inr ne ↦ ne_eqb (place_of ss a) (place_of ss b) (λ e. ne (place_eq ss a b p q e)) ∙ sym (ne_eqb a b ne)
     ]
 
-pub letter_of_place : (ss : List Signal) (a : ℕ) → 0 < width_of ss a → letter_at ss (place_of ss a) ≡ a
-letter_of_place [] a p = absurd (omega (arith, p))
-letter_of_place (s ∷ ss) a p =
-    elim (cases_eq s.letter a) [
-      | inl same ↦ rw (eq-eqb s.letter a same) same
-      | inr ne ↦
-          let e = ne_eqb s.letter a ne in
-          let here : 0 < width_of ss a = omega (arith, p, step_width s ss a e) in
-          let next : place_of ss a + 1 ≡ suc (place_of ss a) = omega arith in
-          rw (e, next) (letter_of_place ss a here)
-    ]
+-- a signal that is made at a place
+pub record IsPlaced (ss : List Signal) (k a : ℕ) : Type 0 where
+  pub made : 0 < width_of ss a
+  pub place : place_of ss a ≡ k
 
-pub record MadeAt (ss : List Signal) (x : ℕ) : Type 0 where
-  pub made : 0 < width_of ss (letter_at ss x)
-  pub place : place_of ss (letter_at ss x) ≡ x
+pub placed : (ss : List Signal) → are_signals ss ≡ true → (k : ℕ) (s : Signal) → slice_get ss k ≡ Some s → IsPlaced ss k s.letter
+placed [] h k s e = absurd cc
+placed (t ∷ ss) h zero s e =
+    let is : t ≡ s = cc in
+    let here = eq-eqb t.letter s.letter (ap (λ (x : Signal). x.letter) is) in
+    let some : 0 < t.width = (signal_fits t ss h).some in
+    record { made = rw here some; place = rw here refl }
+placed (t ∷ ss) h (suc k) s e =
+    let fits = signal_fits t ss h in
+    let p = placed ss fits.others k s e in
+    let other = ne_eqb t.letter s.letter (λ q. omega (arith, ap (width_of ss) q, fits.fresh, p.made)) in
+    record { made = rw other p.made; place = rw other (omega (arith, p.place)) }
 
-pub made_at : (ss : List Signal) (x : ℕ) → are_signals ss ≡ true → x < length ss → MadeAt ss x
-made_at [] x h lt = absurd (omega (arith, lt))
-made_at (s ∷ ss) zero h lt =
-    let fits = signal_fits s ss h in
-    let e = eq-eqb s.letter s.letter refl in
-    record { made = rw e fits.some; place = rw e refl }
-made_at (s ∷ ss) (suc x) h lt =
-    let fits = signal_fits s ss h in
-    let m = made_at ss x fits.others (omega (arith, lt)) in
-    let ne : eqb s.letter (letter_at ss x) ≡ false = ne_eqb s.letter (letter_at ss x) (λ e. omega (arith, ap (width_of ss) e, fits.fresh, m.made)) in
-    record { made = rw ne m.made; place = rw ne (omega (arith, m.place)) }
-
--- ---- shapes
-
-made_of : (ss : List Signal) (a : ℕ) → 0 < width_of ss a → slice_index_or (map (λ s. signal_of s) ss) (place_of ss a) nothing ≡ record { shape = unsigned (width_of ss a); reset = pos 0; reset_less = false }
-made_of [] a p = absurd (omega (arith, p))
-made_of (s ∷ ss) a p =
-    elim (cases_eq s.letter a) [
-      | inl same ↦ rw (eq-eqb s.letter a same) refl
-      | inr ne ↦
-          let e = ne_eqb s.letter a ne in
-          let here : 0 < width_of ss a = omega (arith, p, step_width s ss a e) in
-          let next : place_of ss a + 1 ≡ suc (place_of ss a) = omega arith in
-          rw (e, next) (made_of ss a here)
-    ]
-
-pub made_is : (f : File) (a : ℕ) → 0 < width_of f.signals a → made (circuit_of f) (place_of f.signals a) ≡ record { shape = unsigned (width_of f.signals a); reset = pos 0; reset_less = false }
-made_is f a p = made_of f.signals a p
-
-pub zero_fits : (n : ℕ) → FitsBits n false (pos 0)
-zero_fits n = fits_pos n 0 (pow_pos n)
-
-keeps : (ss : List Signal) (x : ℕ) → are_signals ss ≡ true → IsMade (slice_index_or (map (λ s. signal_of s) ss) x nothing)
-keeps [] x h = record { some = omega arith; fits = zero_fits 1 }
-keeps (s ∷ ss) zero h = record { some = (signal_fits s ss h).some; fits = zero_fits s.width }
-keeps (s ∷ ss) (suc x) h = keeps ss x (signal_fits s ss h).others
-
-pub keeps_shapes : (f : File) → are_signals f.signals ≡ true → KeepsShapes (circuit_of f)
-keeps_shapes f h = record { each = λ x. keeps f.signals x h }
-
--- ---- what drives a signal
+-- ---- an order of the reads
 
 -- the targets of lines are made
 target_made : (ss : List Signal) (l : Line) (ls : List Line) → LineFits ss l ls → 0 < width_of ss l.target
 target_made ss l ls fits = omega (arith, fits.some, fits.target)
-
-pub drives_is : (ss : List Signal) (ls : List Line) (a : ℕ) → are_lines ss ls ≡ true → 0 < width_of ss a → drives_block (place_of ss a) (comb_of ss ls) ≡ is_assigned a ls
-drives_is ss [] a h p = refl
-drives_is ss (l ∷ ls) a h p =
-    let fits = line_fits ss l ls h in
-    rw (place_test ss l.target a (target_made ss l ls fits) p, drives_is ss ls a fits.others p) refl
-
--- the right side of the line that assigns a signal
-abbrev pub assigned_side : List Line → ℕ → Option Side
-assigned_side [] a = None
-assigned_side (l ∷ ls) a = cond (eqb l.target a) (Some l.side) (assigned_side ls a)
-
--- the pattern that the lines leave in a signal
-unassigned_kept : (ss : List Signal) (s : Shapes) (v : Values) (ls : List Line) (a p : ℕ) → are_lines ss ls ≡ true → 0 < width_of ss a → is_assigned a ls ≡ false → after_pieces (place_of ss a) p (taken_block s v (comb_of ss ls)) ≡ p
-unassigned_kept ss s v [] a p h some none = refl
-unassigned_kept ss s v (l ∷ ls) a p h some none =
-    let fits = line_fits ss l ls h in
-    let q = or_false (eqb l.target a) (is_assigned a ls) none in
-    let other : eqb (place_of ss l.target) (place_of ss a) ≡ false = place_test ss l.target a (target_made ss l ls fits) some ∙ q.0 in
-    rw other (unassigned_kept ss s v ls a p fits.others some q.1)
-
-abbrev pub left_by : List Signal → Shapes → Values → ℕ → ℕ → Option Side → ℕ
-left_by ss s v a p None = p
-left_by ss s v a p (Some x) = laid_over p 0 (s (place_of ss a)).bits (value_of s v (term_of ss x))
-
-pub left_is : (ss : List Signal) (s : Shapes) (v : Values) (ls : List Line) (a p : ℕ) → are_lines ss ls ≡ true → 0 < width_of ss a → after_pieces (place_of ss a) p (taken_block s v (comb_of ss ls)) ≡ left_by ss s v a p (assigned_side ls a)
-left_is ss s v [] a p h some = refl
-left_is ss s v (l ∷ ls) a p h some =
-    let fits = line_fits ss l ls h in
-    let test = place_test ss l.target a (target_made ss l ls fits) some in
-    elim (cases_eq l.target a) [
-      | inl same ↦
-          let e = eq-eqb l.target a same in
-          let free : is_assigned a ls ≡ false = subst (λ (x : ℕ). is_assigned x ls ≡ false) same fits.fresh in
-          let here : eqb (place_of ss l.target) (place_of ss a) ≡ true = test ∙ e in
-          rw (here, e, unassigned_kept ss s v ls a (laid_over p 0 (s (place_of ss l.target)).bits (value_of s v (term_of ss l.side))) fits.others some free)
-          (ap (λ (x : ℕ). laid_over p 0 (s (place_of ss x)).bits (value_of s v (term_of ss l.side))) same)
-      | inr ne ↦
-          let e = ne_eqb l.target a ne in
-          let other : eqb (place_of ss l.target) (place_of ss a) ≡ false = test ∙ e in
-          rw (other, e) (left_is ss s v ls a p fits.others some)
-    ]
-
--- ---- an order of the reads
 
 abbrev order : ℕ → Bool → ℕ
 order zero b = cond b 1 0

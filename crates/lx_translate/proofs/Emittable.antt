@@ -22,7 +22,7 @@ use Rattle.lx_translate.specs.FormDesign.{design_signal, design_of}
 use Rattle.lx_translate.specs.FormNames.{signal_name, names_of}
 use Rattle.lx_translate.proofs.Bools.{and_true, and_false, is_not, neither}
 use Rattle.lx_translate.proofs.Facts.{signal_fits, other_letter}
-use Rattle.lx_translate.proofs.Circ.{has_order}
+use Rattle.lx_translate.proofs.Order.{has_order}
 use Rattle.lx_translate.proofs.Words.{letter_name}
 use Rattle.lx_translate.proofs.DesignCircuit.{circuit_is}
 use Rattle.lx_translate.proofs.DesignKeeps.{keeps, lowered}
