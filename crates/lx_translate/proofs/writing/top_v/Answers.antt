@@ -8,6 +8,6 @@ emit_design-requires c = made_can_be_emitted c.args.file.now c.in_ok-design.desi
 pub returns : goal.returns
 returns c = record {
   tree = module_of c.in_ok-module.module;
-  gives = made_gives c.args.file.now c.in_ok-design.design c.in_ok-names.names (module_of c.in_ok-module.module) c.requires c.in_ok-design.ensures c.in_ok-names.ensures c.in_ok-module.ensures;
+  gives = made_gives c.args.file.now c.in_ok-design.design c.in_ok-names.names (module_of c.in_ok-module.module) c.requires c.in_ok-design.ensures c.in_ok-names.ensures c.in_ok-module.ensures.emits;
   written = c.in_ok-text.ensures.text;
 }
