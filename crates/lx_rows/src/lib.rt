@@ -1,4 +1,5 @@
-//! Worked rows: whole runs of the program's call over files in memory, and its adapters over real files.
+//! Worked rows: whole runs of the program's call over files in memory, its adapters over real files, and whole designs
+//! to the text of their modules.
 #![tactic(auto)]
 
 #[cfg(test)]
@@ -6,5 +7,7 @@ mod adapters;
 #[cfg(test)]
 mod builds;
 pub mod operators;
+#[cfg(test)]
+mod designs;
 #[cfg(test)]
 mod texts;
