@@ -6,8 +6,8 @@
 mod adapters;
 #[cfg(test)]
 mod builds;
-pub mod operators;
 #[cfg(test)]
 mod designs;
+pub mod operators;
 #[cfg(test)]
 mod texts;
