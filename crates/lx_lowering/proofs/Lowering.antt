@@ -175,6 +175,7 @@ pub lowers : (c : Circuit) → CanBeLowered c → FlatLaws (shapes c) (length c.
 unfolding lowered
 lowers c k l = record {
   runs = same_runs c (lowered c) refl k.signals (alike c k l);
+  roles = (alike c k l).roles;
   comb = lists_plain (comb_of c) c.signals (comb_own c l k.comb);
   sync = domains_plain c l c.domains k.domains;
   folded = record { each = λ x. lists_folded (shapes c) (λ y. (made c y).reset) (sync_of c c.comb) c.signals (comb_own c l k.comb) x };

@@ -4,7 +4,7 @@ use Rattle.lx_circuit.specs.Terms.{Term, Terms, Constant, Signal, Unary, Binary,
 use Rattle.lx_circuit.specs.Shapes.{Shapes, shape_of, fault_of}
 use Rattle.lx_circuit.specs.Values.{Values}
 use Rattle.lx_circuit.specs.Statements.{Target, Targets, Whole, Part, CatTarget, PickTarget, NoTarget, MoreTargets, Stmt, Assign, If, Case, Branches, NoBranch, Branch, Arms, NoArm, Arm, Block, Done, Then, target_bits}
-use Rattle.lx_circuit.specs.Circuit.{Circuit, Made, Domain, Step, shapes, made, IsView, InputsFit, StepsFit, KeepsShapes}
+use Rattle.lx_circuit.specs.Circuit.{Circuit, Made, Domain, Step, shapes, made, IsView, InputsFit, StepsFit, KeepsShapes, role}
 use Rattle.lx_circuit.specs.Reads.{HasOrder}
 use Rattle.lx_fhdl.specs.Nodes.{IsSmall}
 use Rattle.lx_fhdl.specs.Keeping.{EachOf}
@@ -116,9 +116,10 @@ pub record IsOneConstant (s : Shapes) (x : ℕ) (b : Block) : Type 0 where
 pub record IsFolded (c : Circuit) : Type 0 where
   pub each : (x : ℕ) → block_reads_none (split_block x c.comb) ≡ true → (split_block x c.comb ≡ Done) ⊎ IsOneConstant (shapes c) x (split_block x c.comb)
 
--- The lowered circuit has the same runs, its statements are plain, those that read nothing are constants, and its reads have an order too.
+-- The lowered circuit has the same runs, its signals have the same roles, its statements are plain, those that read nothing are constants, and its reads have an order too.
 pub record Lowers (c e : Circuit) : Type 0 where
   pub runs : HaveSameRuns c e
+  pub roles : (x : ℕ) → role c x ≡ role e x
   pub comb : ArePlain e.comb
   pub sync : EachOf (λ (d : Domain). ArePlain d.stmts) e.domains
   pub folded : IsFolded e
