@@ -1,0 +1,2 @@
+//! The Verilog module of a design: the design is lowered, and the lowered design is emitted.
+#![tactic(auto)]
