@@ -7,9 +7,7 @@ use Rattle.lx_agree.specs.Agreement.{Naming, Agrees, HasPorts}
 use Rattle.lx_fhdl.specs.Designs as design
 use Rattle.lx_fhdl.specs.declared.design.Design.{Design}
 use Rattle.lx_emission.specs.Naming.{naming}
-use Rattle.lx_emission.specs.Emission.{emitted}
-use Rattle.lx_emission.specs.Emits.{CanBeEmitted, Emits}
-use Rattle.lx_emission.proofs.Law.{emits}
+use Rattle.lx_write.specs.Writes.{CanBeWritten, Writes}
 use Rattle.lx_form.specs.declared.file.File.{File}
 use Rattle.lx_form.specs.Form.{is_form}
 use Rattle.lx_translate.specs.FormDesign.{design_of}
@@ -25,31 +23,32 @@ unfolding design_of
 naming_is f = refl
 
 -- a module of the design is one of the description
-pub gives : (f : File) (m : VModule) → IsTrue (is_form f) → Emits (design_of f) (names_of f) m → IsModuleOf f m
-gives f m form e =
+gives : (f : File) (m : VModule) → IsTrue (is_form f) → Writes (design_of f) (names_of f) m → IsModuleOf f m
+gives f m form w =
     let o = form_fits f form in
     let same = circuit_is f o.signals o.lines in
     record {
-      lawful = e.lawful;
-      meaning = e.meaning;
-      ports = subst (λ (c : Circuit). HasPorts c (naming_of f) m) same (subst (λ (n : Naming). HasPorts (design.circuit_of (design_of f)) n m) (naming_is f) e.ports);
-      agrees = subst (λ (c : Circuit). Agrees c m (naming_of f)) same (subst (λ (n : Naming). Agrees (design.circuit_of (design_of f)) m n) (naming_is f) e.agrees);
+      lawful = w.lawful;
+      meaning = w.meaning;
+      ports = subst (λ (c : Circuit). HasPorts c (naming_of f) m) same (subst (λ (n : Naming). HasPorts (design.circuit_of (design_of f)) n m) (naming_is f) w.ports);
+      agrees = subst (λ (c : Circuit). Agrees c m (naming_of f)) same (subst (λ (n : Naming). Agrees (design.circuit_of (design_of f)) m n) (naming_is f) w.agrees);
     }
 
-pub form_can_be_emitted : (f : File) → IsTrue (is_form f) → CanBeEmitted (design_of f) (names_of f)
-form_can_be_emitted f form =
+form_can_be_written : (f : File) → IsTrue (is_form f) → CanBeWritten (design_of f) (names_of f)
+form_can_be_written f form =
     let o = form_fits f form in
-    can_be_emitted f o.signals o.lines
+    let can = can_be_emitted f o.signals o.lines in
+    record { keeps = can.keeps; order = can.order; named = can.named; ports = can.ports }
 
 pub translation : IsTranslationLaw
-translation f form = gives f (emitted (design_of f) (names_of f)) form (emits (design_of f) (names_of f) (form_can_be_emitted f form))
+translation f form = record { can = form_can_be_written f form; gives = λ m w. gives f m form w }
 
 -- ---- the design and the names as they are made
 
-pub made_can_be_emitted : (f : File) (d : Design) (names : List Name) → IsTrue (is_form f) → d ≡ design_of f → names ≡ names_of f → CanBeEmitted d names
-made_can_be_emitted f d names form p q =
-    subst (λ (x : Design). CanBeEmitted x names) (sym p) (subst (λ (ns : List Name). CanBeEmitted (design_of f) ns) (sym q) (form_can_be_emitted f form))
+pub made_can_be_written : (f : File) (d : Design) (names : List Name) → IsTrue (is_form f) → d ≡ design_of f → names ≡ names_of f → CanBeWritten d names
+made_can_be_written f d names form p q =
+    subst (λ (x : Design). CanBeWritten x names) (sym p) (subst (λ (ns : List Name). CanBeWritten (design_of f) ns) (sym q) (form_can_be_written f form))
 
-pub made_gives : (f : File) (d : Design) (names : List Name) (m : VModule) → IsTrue (is_form f) → d ≡ design_of f → names ≡ names_of f → Emits d names m → IsModuleOf f m
-made_gives f d names m form p q e =
-    gives f m form (subst (λ (ns : List Name). Emits (design_of f) ns m) q (subst (λ (x : Design). Emits x names m) p e))
+pub made_gives : (f : File) (d : Design) (names : List Name) (m : VModule) → IsTrue (is_form f) → d ≡ design_of f → names ≡ names_of f → Writes d names m → IsModuleOf f m
+made_gives f d names m form p q w =
+    gives f m form (subst (λ (ns : List Name). Writes (design_of f) ns m) q (subst (λ (x : Design). Writes x names m) p w))

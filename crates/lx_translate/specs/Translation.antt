@@ -5,7 +5,7 @@ use Rattle.lx_vtext.specs.Printed.{module_text}
 use Rattle.lx_vtext.specs.Fits.{IsModule}
 use Rattle.lx_vmeaning.specs.Cycle.{HasCycleMeaning}
 use Rattle.lx_agree.specs.Agreement.{Agrees, HasPorts}
-use Rattle.lx_emission.specs.Emission.{emitted}
+use Rattle.lx_write.specs.Writes.{CanBeWritten, Writes}
 use Rattle.lx_form.specs.declared.file.File.{File}
 use Rattle.lx_form.specs.Form.{is_form}
 use Rattle.lx_translate.specs.FormCircuit.{circuit_of}
@@ -26,6 +26,11 @@ pub record IsTextOf (f : File) (text : List ℕ) : Type 0 where
   pub gives : IsModuleOf f tree
   pub written : text ≡ module_text tree
 
--- The module of the design of each description of the form does so.
+-- The design of a description can be written, and a module that gives what the design means gives what the description means.
+pub record IsWrittenAsDesign (f : File) : Type 0 where
+  pub can : CanBeWritten (design_of f) (names_of f)
+  pub gives : (m : VModule) → Writes (design_of f) (names_of f) m → IsModuleOf f m
+
+-- That of each description of the form is so.
 abbrev pub IsTranslationLaw : Type 0
-IsTranslationLaw = (f : File) → IsTrue (is_form f) → IsModuleOf f (emitted (design_of f) (names_of f))
+IsTranslationLaw = (f : File) → IsTrue (is_form f) → IsWrittenAsDesign f

@@ -5,10 +5,10 @@ ghost use Rattle.lx_form.specs.Form.{is_form};
 ghost use Rattle.lx_translate.specs.Translation.{IsTextOf};
 
 use crate::designs::{design, names};
-use lx_emit::emit_design;
 use lx_form::File;
 use lx_text::{NoMemory, Text};
 use lx_vprint::print;
+use lx_write::write_module;
 use std::alloc::Global;
 
 /// The text of `top.v` for a description of the form (IEEE 1364-2005, "Modules").
@@ -18,7 +18,7 @@ pub fn top_v(alloc: Global, file: &File) -> Result<Text, NoMemory>
 {
     let design = design(alloc, file)?;
     let names = names(alloc, file)?;
-    let module = emit_design(alloc, &design, &names)?;
+    let module = write_module(alloc, &design, &names)?;
     let text = print(alloc, &module)?;
     Ok(text)
 }
