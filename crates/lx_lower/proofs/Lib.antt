@@ -1,2 +1,5 @@
 pub mod Growing
+pub mod NodeTrees
+pub mod Putting
+pub mod Splitting
 pub mod Staying
