@@ -1,4 +1,5 @@
 pub mod FromKeeps
 pub mod Growing
 pub mod Kept
+pub mod Nodes
 pub mod Staying

@@ -1,6 +1,8 @@
 //! Designs whose statements are lowered: one list of flat statements for each signal.
 #![tactic(auto)]
 
+pub mod bits;
 pub mod drafts;
 
+pub use bits::target_bits;
 pub use drafts::{push_expr, push_stmt, push_target};
