@@ -1,2 +1,4 @@
+pub mod Conditions
 pub mod Growing
+pub mod Kept
 pub mod Staying

@@ -1,6 +1,7 @@
 //! Designs whose statements are lowered: one list of flat statements for each signal.
 #![tactic(auto)]
 
+pub mod conds;
 pub mod drafts;
 
 pub use drafts::{push_expr, push_stmt, push_target};
