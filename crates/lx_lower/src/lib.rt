@@ -2,6 +2,7 @@
 #![tactic(auto)]
 
 pub mod bits;
+pub mod conds;
 pub mod drafts;
 
 pub use bits::target_bits;
