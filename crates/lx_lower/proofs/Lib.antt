@@ -3,4 +3,5 @@ pub mod FromKeeps
 pub mod Growing
 pub mod Kept
 pub mod Nodes
+pub mod Puts
 pub mod Staying

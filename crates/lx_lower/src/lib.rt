@@ -2,8 +2,10 @@
 #![tactic(auto)]
 
 pub mod bits;
+pub mod blocks;
 pub mod conds;
 pub mod drafts;
 
 pub use bits::target_bits;
+pub use blocks::Draft;
 pub use drafts::{push_expr, push_stmt, push_target};
