@@ -1,7 +1,7 @@
 -- Arenas that grow by a node: the trees that were there stay, and what was kept is kept.
-use Rattle.std.proofs.Common.{◌≡◌, ℕ, zero, suc, ◌+◌, ◌<◌, ◌≤◌, Bool, true, List, [], ◌∷◌, ◌++◌, length, refl, sym, ap, subst, ◌∙◌, arith, inl, inr, length-append, nat_lt}
+use Rattle.std.proofs.Common.{◌≡◌, ℕ, zero, suc, ◌+◌, ◌<◌, ◌≤◌, List, [], ◌∷◌, ◌++◌, length, refl, sym, ap, subst, ◌∙◌, arith, inl, inr, length-append}
 use Rattle.std.specs.Prelude.{Option, Some, None, slice_get, IfSome, IsTrue}
-use Rattle.std.proofs.lemmas.Bool.{cases_lt, ltb-true, lt-ltb, and_parts}
+use Rattle.std.proofs.lemmas.Bool.{cases_lt}
 use Rattle.lx_arena.specs.Lower.{EachLower}
 use Rattle.lx_circuit.specs.Terms.{Term}
 use Rattle.lx_circuit.specs.Shapes.{Shapes, fault_of}

@@ -1,5 +1,10 @@
+pub mod Conditions
+pub mod FromKeeps
 pub mod Growing
+pub mod Kept
 pub mod NodeTrees
+pub mod Nodes
 pub mod Putting
+pub mod Puts
 pub mod Splitting
 pub mod Staying

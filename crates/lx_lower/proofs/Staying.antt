@@ -1,7 +1,6 @@
 -- Trees that stay while the arenas below them grow, and growth in several steps.
-use Rattle.std.proofs.Common.{◌≡◌, ℕ, zero, suc, ◌<◌, ◌≤◌, List, [], ◌∷◌, length, refl, sym, ap, subst, ◌∙◌, arith}
+use Rattle.std.proofs.Common.{◌≡◌, ℕ, zero, suc, ◌≤◌, List, [], ◌∷◌, length, refl, sym, ap, subst, ◌∙◌, arith}
 use Rattle.std.specs.Prelude.{Option, Some, None, slice_get, IfSome, IsTrue}
-use Rattle.lx_arena.specs.Lower.{EachLower}
 use Rattle.lx_circuit.specs.Terms.{Term}
 use Rattle.lx_circuit.specs.Shapes.{Shapes, shape_of}
 use Rattle.lx_circuit.specs.Statements as tree

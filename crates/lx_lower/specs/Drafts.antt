@@ -1,5 +1,5 @@
 -- What the arenas of a lowered design keep while they are filled, over the shapes of signals and their number.
-use Rattle.std.specs.Prelude.{◌≡◌, ℕ, false, List, [], ◌∷◌, Option, Some, None, ◌+◌, ◌<◌, ◌≤◌, map, length, slice_get, slice_index_or, IsTrue}
+use Rattle.std.specs.Prelude.{◌≡◌, ℕ, false, List, Some, None, ◌+◌, ◌<◌, ◌≤◌, map, length, slice_get, slice_index_or, IsTrue}
 use Rattle.lx_arena.specs.Lower.{EachLower}
 use Rattle.lx_circuit.specs.Terms.{Term}
 use Rattle.lx_circuit.specs.Shapes.{Shapes, shape_of, fault_of}
@@ -9,7 +9,7 @@ use Rattle.lx_fhdl.specs.Below.{expr_below, target_below, stmt_below}
 use Rattle.lx_fhdl.specs.Designs.{made_of}
 use Rattle.lx_fhdl.specs.Keeping.{NamesBelow, TakesOperands, BranchesStand}
 use Rattle.lx_fhdl.specs.Nodes.{HasParts, IsSmall}
-use Rattle.lx_fhdl.specs.Stmts.{node_target, target_at, node_stmt, stmt_at}
+use Rattle.lx_fhdl.specs.Stmts.{node_target, target_at, stmt_at}
 use Rattle.lx_fhdl.specs.Trees.{node_term, term_at}
 use Rattle.lx_fhdl.specs.declared.design.Signal.{Signal}
 use Rattle.lx_fhdl.specs.declared.exprs.Expr.{Expr}

@@ -1,9 +1,14 @@
 //! Designs whose statements are lowered: one list of flat statements for each signal.
 #![tactic(auto)]
 
+pub mod bits;
+pub mod blocks;
+pub mod conds;
 pub mod drafts;
 pub mod nodes;
 pub mod split;
 
+pub use bits::target_bits;
+pub use blocks::Draft;
 pub use drafts::{push_expr, push_stmt, push_target};
 pub use split::split_list;
