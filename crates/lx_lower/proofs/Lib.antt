@@ -4,7 +4,6 @@ pub mod Growing
 pub mod Kept
 pub mod NodeTrees
 pub mod Nodes
-pub mod Putting
 pub mod Puts
 pub mod Splitting
 pub mod Staying

@@ -1,4 +1,4 @@
-pub mod Blocks
 pub mod Drafts
+pub mod Over
 pub mod Puts
 pub mod Tests

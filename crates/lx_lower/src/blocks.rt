@@ -21,7 +21,7 @@ pub struct Draft {
 }
 
 /// Adds a statement whose parts stand already.
-fn put_node(
+pub fn put_node(
     signals: &[Signal],
     draft: &mut Draft,
     node: Stmt,

@@ -5,8 +5,8 @@ pub mod bits;
 pub mod blocks;
 pub mod conds;
 pub mod drafts;
-pub mod nodes;
 pub mod split;
+pub mod trees;
 
 pub use bits::target_bits;
 pub use blocks::Draft;

@@ -1,7 +1,7 @@
 use Rattle.std.proofs.Common.{◌+◌, ◌*◌, [], take, drop, IsTrue}
 use Rattle.lx_fhdl.specs.Below.{all_stmts_below}
 use Rattle.lx_lowering.specs.Split.{split_block}
-use Rattle.lx_lower.specs.Blocks.{BlockPut, block_in}
+use Rattle.lx_lower.specs.Over.{PutOver, block_over}
 use Rattle.lx_lower.proofs.split.+split.Given as goal
 
 abbrev pub decreases-put_split : goal.decreases-put_split
@@ -12,6 +12,6 @@ decreases-split_list l = 2 * l.bound
 
 abbrev pub invariant-split_list-loop-id : goal.invariant-split_list-loop-id
 invariant-split_list-loop-id l = record {
-  put : BlockPut l.exprs l.targets l.initial.stmts [] l.stmts l.list (split_block l.x.0 (block_in l.exprs l.targets l.flat (take l.id-index l.ids)));
+  put : PutOver l.signals l.flat l.initial.draft l.draft [] l.list (split_block l.x.0 (block_over l.initial.draft l.flat (take l.id-index l.ids)));
   below : IsTrue (all_stmts_below l.bound (drop l.id-index l.ids));
 }
