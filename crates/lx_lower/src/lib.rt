@@ -5,6 +5,8 @@ pub mod bits;
 pub mod blocks;
 pub mod conds;
 pub mod drafts;
+pub mod fixed;
+pub mod fold;
 pub mod split;
 pub mod trees;
 

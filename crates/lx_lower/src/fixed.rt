@@ -1,0 +1,76 @@
+//! Expressions that name no signal, and their values.
+
+ghost use Rattle.std.specs.Prelude.{◌≡◌, ◌<◌, length, IfOk, IsTrue};
+ghost use Rattle.lx_fhdl.specs.Below.{all_below, expr_below};
+ghost use Rattle.lx_lower.specs.Fixed.{AreFree, all_free, free_at, node_free};
+
+use crate::trees::expr_node;
+use lx_arena::Id;
+use lx_fhdl::{Expr, ExprId, Exprs};
+use lx_text::{List, NoMemory};
+use std::alloc::Global;
+use std::marker::PhantomData;
+
+/// What is known of each expression.
+#[derive(Drop)]
+pub struct Fixed {
+    /// Whether it names no signal.
+    pub free: List<bool>,
+    /// Its value where all signals are 0.
+    pub values: List<i128>,
+}
+
+fn free_at(free: &[bool], id: ExprId) -> bool
+    requires { id.place < length free.now }
+    ensures { result ≡ free_at free.now id.place }
+{
+    free[id.place]
+}
+
+fn all_free(free: &[bool], ids: &[ExprId]) -> bool
+    requires { IsTrue (all_below (length free.now) ids.now) }
+    ensures { result ≡ all_free free.now ids.now }
+{
+    for id in ids {
+        if !free_at(free, *id) {
+            return false;
+        }
+    }
+    true
+}
+
+/// Whether a node names no signal, from its children.
+fn node_free(free: &[bool], node: &Expr) -> bool
+    requires { IsTrue (expr_below node.now (length free.now)) }
+    ensures { result ≡ node_free free.now node.now }
+{
+    match node {
+        Expr::Const { .. } => true,
+        Expr::Sig(_) => false,
+        Expr::Unary { of, .. } | Expr::Replicate { of, .. } | Expr::Slice { of, .. } => {
+            free_at(free, *of)
+        }
+        Expr::Binary { left, right, .. } => free_at(free, *left) && free_at(free, *right),
+        Expr::Mux { cond, yes, no } => {
+            free_at(free, *cond) && free_at(free, *yes) && free_at(free, *no)
+        }
+        Expr::Cat(parts) => all_free(free, parts.as_slice()),
+        Expr::Pick { items, index } => all_free(free, items.as_slice()) && free_at(free, *index),
+    }
+}
+
+/// For each expression, whether it names no signal.
+pub fn free_exprs(alloc: Global, exprs: &Exprs) -> Result<List<bool>, NoMemory>
+    ensures { IfOk result (λ free. AreFree exprs.now (length exprs.now) free) }
+{
+    let mut free = List::new(alloc);
+    for place in 0..exprs.len() {
+        let id = Id {
+            place,
+            of: PhantomData,
+        };
+        let own = node_free(free.as_slice(), expr_node(exprs, id));
+        free.push(own)?;
+    }
+    Ok(free)
+}
