@@ -1,4 +1,5 @@
 pub mod Conditions
+pub mod Folding
 pub mod Freedom
 pub mod FromKeeps
 pub mod Growing

@@ -1,5 +1,5 @@
 -- Expressions that name no signal, and what all expressions are where each signal is 0.
-use Rattle.std.specs.Prelude.{◌≡◌, ℕ, ℤ, Bool, true, false, List, [], ◌∷◌, ◌<◌, ◌&&◌, length, slice_index_or}
+use Rattle.std.specs.Prelude.{◌≡◌, ℕ, ℤ, Bool, true, false, List, [], ◌∷◌, ◌<◌, ◌≤◌, ◌&&◌, length, slice_index_or}
 use Rattle.lx_circuit.specs.Shapes.{Shapes}
 use Rattle.lx_circuit.specs.Values.{value_of}
 use Rattle.lx_fhdl.specs.Below.{ExprId}
@@ -43,3 +43,7 @@ pub record AreValues (s : Shapes) (xs : List Expr) (known : List ℤ) : Type 0 w
 pub record IsFixed (s : Shapes) (xs : List Expr) (f : Fixed) : Type 0 where
   pub free : AreFree xs (length xs) f.free
   pub values : AreValues s xs f.values
+
+-- signals have at most 64 bits
+pub record AreNarrow (s : Shapes) (n : ℕ) : Type 0 where
+  pub most : (x : ℕ) → x < n → (s x).bits ≤ 64

@@ -1,6 +1,6 @@
 //! Nodes of the arenas with their trees.
 
-ghost use Rattle.std.specs.Prelude.{◌≡◌, ◌<◌, length, IsTrue};
+ghost use Rattle.std.specs.Prelude.{◌≡◌, ◌<◌, length, slice_get, Some, IsTrue};
 ghost use Rattle.lx_fhdl.specs.Below.{expr_below, stmt_below, target_below};
 ghost use Rattle.lx_fhdl.specs.Stmts.{node_stmt, node_target, target_at};
 ghost use Rattle.lx_fhdl.specs.Trees.{node_term, term_at};
@@ -24,6 +24,7 @@ pub fn target_node<'a>(exprs: &Exprs, targets: &'a Targets, id: TargetId) -> &'a
     requires { id.place < length targets.now }
     ensures tree { target_in exprs.now targets.now id.place ≡ node_target (term_at exprs.now) (target_at (term_at exprs.now) targets.now) result.now }
     ensures below { IsTrue (target_below result.now id.place) }
+    ensures item { slice_get targets.now id.place ≡ Some result.now }
 {
     let _exprs = exprs;
     targets.get(id)
