@@ -3,5 +3,9 @@
 
 pub mod conds;
 pub mod drafts;
+pub mod exprs;
+pub mod shapes;
 
 pub use drafts::{push_expr, push_stmt, push_target};
+pub use exprs::{LoweredExprs, lower_exprs};
+pub use shapes::expr_shapes;
