@@ -1,11 +1,14 @@
+pub mod Choices
 pub mod Conditions
 pub mod Folding
 pub mod Freedom
 pub mod FromKeeps
 pub mod Growing
 pub mod Kept
+pub mod Moved
 pub mod NodeTrees
 pub mod Nodes
 pub mod Puts
+pub mod Shaped
 pub mod Splitting
 pub mod Staying
