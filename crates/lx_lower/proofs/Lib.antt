@@ -12,3 +12,4 @@ pub mod Puts
 pub mod Shaped
 pub mod Splitting
 pub mod Staying
+pub mod Zeros

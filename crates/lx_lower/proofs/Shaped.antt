@@ -21,7 +21,7 @@ use Rattle.lx_fhdl.proofs.Operators.{none_right}
 use Rattle.lx_fhdl.proofs.Trees.{term_at-is}
 use Rattle.lx_width.specs.Width.{signal_shape}
 use Rattle.lx_lower.specs.Drafts.{ExprsAreSound, shapes_in}
-use Rattle.lx_lower.specs.Exprs.{AreShapes}
+use Rattle.lx_lower.specs.Exprs.{AreShapes, ShapesTo}
 
 -- ---- lists that grow at the end
 
@@ -41,14 +41,14 @@ item_there xs ys k x e h g = ap (λ (zs : List _). slice_get zs k) (sym e) ∙ s
 -- ---- one node
 
 -- a list of shapes has that of a tree
-abbrev HasShape : Shapes → (ℕ → Term) → List Shape → ℕ → Type 0
+abbrev pub HasShape : Shapes → (ℕ → Term) → List Shape → ℕ → Type 0
 HasShape s t hs k = shape_of s (t k) ≡ shape_at hs k
 
 parts_shapes : (s : Shapes) (t : ℕ → Term) (hs : List Shape) (is : List ExprId) → EachPlace (HasShape s t hs) is → shapes_of s (terms_at t is) ≡ shapes_at hs is
 parts_shapes s t hs [] h = refl
 parts_shapes s t hs (i ∷ is) h = rw (h.0, parts_shapes s t hs is h.1) refl
 
-shape_same : (s : Shapes) (t : ℕ → Term) (hs : List Shape) (x : Expr) → EachChild (HasShape s t hs) x → shape_of s (node_term t x) ≡ node_shape s hs x
+pub shape_same : (s : Shapes) (t : ℕ → Term) (hs : List Shape) (x : Expr) → EachChild (HasShape s t hs) x → shape_of s (node_term t x) ≡ node_shape s hs x
 shape_same s t hs (Const value bits signed) h = refl
 shape_same s t hs (Sig x) h = refl
 shape_same s t hs (Unary op of) h = ap (unary_shape op) h
@@ -59,7 +59,7 @@ shape_same s t hs (Pick items index) h = rw (parts_shapes s t hs items h.0) refl
 shape_same s t hs (Replicate of count) h = rw h refl
 shape_same s t hs (Slice of low high) h = refl
 
-fault_same : (s : Shapes) (t : ℕ → Term) (hs : List Shape) (x : Expr) → EachChild (HasShape s t hs) x → fault_of s (node_term t x) ≡ None → node_fault hs x ≡ None
+pub fault_same : (s : Shapes) (t : ℕ → Term) (hs : List Shape) (x : Expr) → EachChild (HasShape s t hs) x → fault_of s (node_term t x) ≡ None → node_fault hs x ≡ None
 fault_same s t hs (Const value bits signed) h e = e
 fault_same s t hs (Sig x) h e = refl
 fault_same s t hs (Unary op of) h e = rw (← h) (none_right _ _ e)
@@ -92,11 +92,6 @@ by_signals s r hs (Replicate of count) h = refl
 by_signals s r hs (Slice of low high) h = refl
 
 -- ---- all nodes
-
--- the shapes of the first n trees
-pub record ShapesTo (s : Shapes) (xs : List Expr) (n : ℕ) (hs : List Shape) : Type 0 where
-  pub long : length hs ≡ n
-  pub each : (k : ℕ) → k < n → shape_at hs k ≡ shape_of s (term_at xs k)
 
 pub shapes_none : (s : Shapes) (xs : List Expr) → ShapesTo s xs 0 []
 shapes_none s xs = record { long = refl; each = λ k h. absurd (omega arith) }

@@ -14,6 +14,11 @@ use Rattle.lx_lowering.specs.Terms.{lower_term}
 use Rattle.lx_lower.specs.Drafts.{ExprsKeep}
 use Rattle.lx_lower.specs.declared.exprs.LoweredExprs.{LoweredExprs}
 
+-- the shapes of the first n trees
+pub record ShapesTo (s : Shapes) (xs : List Expr) (n : ℕ) (hs : List Shape) : Type 0 where
+  pub long : length hs ≡ n
+  pub each : (k : ℕ) → k < n → shape_at hs k ≡ shape_of s (term_at xs k)
+
 -- the shapes of all expressions
 pub record AreShapes (s : Shapes) (d : Design) (hs : List Shape) : Type 0 where
   pub long : length hs ≡ length d.exprs

@@ -1,15 +1,20 @@
 //! Expressions that name no signal, and their values.
 
-ghost use Rattle.std.specs.Prelude.{◌≡◌, ◌<◌, length, IfOk, IsTrue};
+ghost use Rattle.std.specs.Prelude.{◌≡◌, ◌<◌, pos, length, replicate, IfOk, IsTrue};
 ghost use Rattle.lx_fhdl.specs.Below.{all_below, expr_below};
-ghost use Rattle.lx_lower.specs.Fixed.{AreFree, all_free, free_at, node_free};
+ghost use Rattle.lx_lower.specs.Drafts.{ExprsAreSound, shapes_in};
+ghost use Rattle.lx_lower.specs.Exprs.{ShapesTo};
+ghost use Rattle.lx_lower.specs.Fixed.{AreFree, AreNarrow, AreValues, IsFixed, all_free, free_at, node_free};
 
+use crate::shapes::term_shapes;
 use crate::trees::expr_node;
 use lx_arena::Id;
-use lx_fhdl::{Expr, ExprId, Exprs};
+use lx_fhdl::{Expr, ExprId, Exprs, Signal, Steps, eval_into};
+use lx_num::Shape;
 use lx_text::{List, NoMemory};
 use std::alloc::Global;
-use std::marker::PhantomData;
+use std::marker::{Brand, PhantomData};
+use std::sync::ledger::{Blank, Ledger};
 
 /// What is known of each expression.
 #[derive(Drop)]
@@ -73,4 +78,67 @@ pub fn free_exprs(alloc: Global, exprs: &Exprs) -> Result<List<bool>, NoMemory>
         free.push(own)?;
     }
     Ok(free)
+}
+
+/// So many zeros.
+fn zeros(alloc: Global, count: usize) -> Result<Vec<i128>, NoMemory>
+    ensures { IfOk result (λ list. list.items ≡ replicate count (pos 0)) }
+{
+    Ok(vec![in alloc; 0; count]?)
+}
+
+/// The value of each expression where all signals are 0, under a counter of its own.
+fn count_values<L: Ledger>(
+    alloc: Global,
+    signals: &[Signal],
+    exprs: &Exprs,
+    shapes: &[Shape],
+    blank: Blank,
+) -> Result<List<i128>, NoMemory>
+    requires name { blank.name ≡ L.name }
+    requires parts { blank.parts ≡ L.parts }
+    requires some { 0 < blank.parts }
+    requires sound { ExprsAreSound (shapes_in signals.now) (length signals.now) exprs.now }
+    requires narrow { AreNarrow (shapes_in signals.now) (length signals.now) }
+    requires shapes { ShapesTo (shapes_in signals.now) exprs.now (length exprs.now) shapes.now }
+    ensures { IfOk result (λ known. AreValues (shapes_in signals.now) exprs.now known) }
+{
+    let none = zeros(alloc, signals.len())?;
+    let mut known = zeros(alloc, exprs.len())?;
+    let mut steps = Steps::<L>::new(blank);
+    eval_into(
+        exprs,
+        shapes,
+        none.as_slice(),
+        known.as_mut_slice(),
+        &mut steps,
+    );
+    Ok(List::from_vec(known))
+}
+
+/// The value of each expression where all signals are 0.
+fn values(
+    alloc: Global,
+    signals: &[Signal],
+    exprs: &Exprs,
+    shapes: &[Shape],
+) -> Result<List<i128>, NoMemory>
+    requires sound { ExprsAreSound (shapes_in signals.now) (length signals.now) exprs.now }
+    requires narrow { AreNarrow (shapes_in signals.now) (length signals.now) }
+    requires shapes { ShapesTo (shapes_in signals.now) exprs.now (length exprs.now) shapes.now }
+    ensures { IfOk result (λ known. AreValues (shapes_in signals.now) exprs.now known) }
+{
+    count_values::<Brand>(alloc, signals, exprs, shapes, Blank::new(1))
+}
+
+/// What is known of each expression.
+pub fn fixed_exprs(alloc: Global, signals: &[Signal], exprs: &Exprs) -> Result<Fixed, NoMemory>
+    requires sound { ExprsAreSound (shapes_in signals.now) (length signals.now) exprs.now }
+    requires narrow { AreNarrow (shapes_in signals.now) (length signals.now) }
+    ensures { IfOk result (λ f. IsFixed (shapes_in signals.now) exprs.now f) }
+{
+    let shapes = term_shapes(alloc, signals, exprs)?;
+    let values = values(alloc, signals, exprs, shapes.as_slice())?;
+    let free = free_exprs(alloc, exprs)?;
+    Ok(Fixed { free, values })
 }

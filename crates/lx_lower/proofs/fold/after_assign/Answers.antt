@@ -8,7 +8,7 @@ bits_of-requires c = whole_there _ _ _ _ _ _ _ c.requires.draft.targets c.target
 pub lay-requires-clause-some : goal.lay-requires-clause-some
 lay-requires-clause-some c =
     let there = whole_there _ _ _ _ _ _ _ c.requires.draft.targets c.target_node.ensures.item c.in-Whole.is in
-    omega (arith, (c.requires.draft.exprs.small c.in-Whole.y.0 there).some, c.bits_of.ensures)
+    omega (arith, (c.requires.draft.exprs.sound.small c.in-Whole.y.0 there).some, c.bits_of.ensures)
 
 pub lay-requires-clause-end : goal.lay-requires-clause-end
 lay-requires-clause-end c =
