@@ -1,13 +1,20 @@
 -- Expressions that name no signal, and what all expressions are where each signal is 0.
-use Rattle.std.specs.Prelude.{◌≡◌, ℕ, ℤ, Bool, true, false, List, [], ◌∷◌, ◌<◌, ◌≤◌, ◌&&◌, length, slice_index_or}
+use Rattle.std.specs.Prelude.{◌≡◌, ℕ, ℤ, Bool, true, false, List, [], ◌∷◌, ◌<◌, ◌≤◌, ◌&&◌, length, map, slice_index_or}
 use Rattle.lx_circuit.specs.Shapes.{Shapes}
 use Rattle.lx_circuit.specs.Values.{value_of}
+use Rattle.lx_circuit.specs.Terms.{Constant}
+use Rattle.lx_circuit.specs.Statements.{Block, Assign, Whole}
+use Rattle.lx_circuit.specs.Circuit.{nothing}
+use Rattle.lx_fhdl.specs.Designs.{made_of}
 use Rattle.lx_fhdl.specs.Below.{ExprId}
 use Rattle.lx_fhdl.specs.Nodes.{value_at}
 use Rattle.lx_fhdl.specs.Trees.{term_at}
+use Rattle.lx_fhdl.specs.declared.design.Signal.{Signal}
 use Rattle.lx_fhdl.specs.declared.exprs.Expr.{Expr}
 use Rattle.lx_fhdl.specs.declared.exprs.Expr.TheVariants.{Const, Sig, Unary, Binary, Mux, Cat, Pick, Replicate, Slice}
-use Rattle.lx_lowering.specs.Constants.{names_none, zeros}
+use Rattle.lx_lowering.specs.Constants.{names_none, zeros, folded}
+use Rattle.lx_lowering.specs.Flat.{one}
+use Rattle.lx_lower.specs.Drafts.{shapes_in}
 use Rattle.lx_lower.specs.declared.fixed.Fixed.{Fixed}
 
 -- whether the expression at a place names no signal
@@ -47,3 +54,15 @@ pub record IsFixed (s : Shapes) (xs : List Expr) (f : Fixed) : Type 0 where
 -- signals have at most 64 bits
 pub record AreNarrow (s : Shapes) (n : ℕ) : Type 0 where
   pub most : (x : ℕ) → x < n → (s x).bits ≤ 64
+
+-- the value that a signal has where nothing gives it one
+unfoldable pub reset_in : List Signal → ℕ → ℤ
+reset_in signals x = (slice_index_or (map made_of signals) x nothing).reset
+
+-- the statements of a signal, folded
+abbrev pub folded_in : List Signal → ℕ → Block → Block
+folded_in signals x b = folded (shapes_in signals) x (reset_in signals x) b
+
+-- the assignment of a constant to a signal
+abbrev pub constant_in : List Signal → ℕ → ℤ → Block
+constant_in signals x v = one (Assign (Whole x) (Constant v (shapes_in signals x)))

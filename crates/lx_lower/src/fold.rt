@@ -1,6 +1,6 @@
 //! Statements of one signal that read no signal: one assignment of what they give.
 
-ghost use Rattle.std.specs.Prelude.{◌≡◌, ◌+◌, ◌<◌, ◌≤◌, true, length, IsTrue};
+ghost use Rattle.std.specs.Prelude.{◌≡◌, ◌+◌, ◌<◌, ◌≤◌, true, length, IsTrue, MatchOption};
 ghost use Rattle.lx_circuit.specs.Values.{value_of};
 ghost use Rattle.lx_circuit.specs.Statements.{after_pieces, laid_over, pieces, taken, taken_block};
 ghost use Rattle.lx_fhdl.specs.Below.{all_branches_below, all_stmts_below};
@@ -10,14 +10,15 @@ ghost use Rattle.lx_fhdl.specs.Trees.{term_at};
 ghost use Rattle.lx_fhdl.specs.Lowered.{are_for, is_for, is_plain_target};
 ghost use Rattle.lx_lowering.specs.Constants.{block_reads_none, branches_read_none, names_none, reads_none, zeros};
 ghost use Rattle.lx_lower.specs.Drafts.{shapes_in, target_in};
-ghost use Rattle.lx_lower.specs.Fixed.{AreFree, AreNarrow, AreValues};
+ghost use Rattle.lx_lower.specs.Fixed.{AreFree, AreNarrow, AreValues, IsFixed, constant_in, folded_in};
 ghost use Rattle.lx_lower.specs.Over.{AreOver, block_over, stmt_over};
-ghost use Rattle.lx_lower.specs.Puts.{IsDraft, block_of, term_of};
+ghost use Rattle.lx_lower.specs.Puts.{AreThere, IsDraft, block_of, term_of};
 
 use crate::blocks::Draft;
+use crate::fixed::Fixed;
 use crate::trees::{stmt_node, target_node};
 use lx_fhdl::{Branch, ExprId, Exprs, SigId, Signal, Stmt, StmtId, Target, TargetId};
-use lx_num::with_field;
+use lx_num::{with_field, wrap};
 
 /// Whether an expression names no signal.
 fn is_free(exprs: &Exprs, free: &[bool], id: ExprId) -> bool
@@ -195,4 +196,31 @@ fn after_block(
         pattern = after_stmt(signals, draft, values, x, pattern, *id);
     }
     pattern
+}
+
+/// The number that statements for a signal give it, where they read no signal.
+pub fn folded_number(
+    signals: &[Signal],
+    draft: &Draft,
+    fixed: &Fixed,
+    x: SigId,
+    ids: &[StmtId],
+) -> Option<i128>
+    requires draft { IsDraft signals.now draft.now }
+    requires narrow { AreNarrow (shapes_in signals.now) (length signals.now) }
+    requires fixed { IsFixed (shapes_in signals.now) draft.now.exprs fixed.now }
+    requires signal { x.0 < length signals.now }
+    requires there { AreThere draft.now ids.now }
+    requires alone { are_for x.0 (block_of draft.now ids.now) ≡ true }
+    ensures { MatchOption result (block_of draft.now ids.now ≡ folded_in signals.now x.0 (block_of draft.now ids.now)) (λ v. constant_in signals.now x.0 v ≡ folded_in signals.now x.0 (block_of draft.now ids.now)) }
+{
+    let bound = draft.stmts.len();
+    if ids.is_empty() || !block_reads_none(draft, fixed.free.as_slice(), ids, bound) {
+        return None;
+    }
+    let signal = &signals[x.0];
+    let pattern = lay(0, 0, signal.shape.bits, signal.reset);
+    let values = fixed.values.as_slice();
+    let after = after_block(signals, draft, values, x, pattern, ids, bound);
+    Some(wrap(after as i128, signal.shape))
 }
