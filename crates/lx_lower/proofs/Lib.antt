@@ -5,6 +5,7 @@ pub mod Freedom
 pub mod FromKeeps
 pub mod Growing
 pub mod Kept
+pub mod Listing
 pub mod Moved
 pub mod NodeTrees
 pub mod Nodes

@@ -1,5 +1,5 @@
 -- Expressions that name no signal, and what all expressions are where each signal is 0.
-use Rattle.std.specs.Prelude.{◌≡◌, ℕ, ℤ, Bool, true, false, List, [], ◌∷◌, ◌<◌, ◌≤◌, ◌&&◌, length, map, slice_index_or}
+use Rattle.std.specs.Prelude.{◌≡◌, ℕ, ℤ, Bool, true, false, List, [], ◌∷◌, Option, Some, None, ◌<◌, ◌≤◌, ◌&&◌, length, map, slice_index_or}
 use Rattle.lx_circuit.specs.Shapes.{Shapes}
 use Rattle.lx_circuit.specs.Values.{value_of}
 use Rattle.lx_circuit.specs.Terms.{Constant}
@@ -66,3 +66,8 @@ folded_in signals x b = folded (shapes_in signals) x (reset_in signals x) b
 -- the assignment of a constant to a signal
 abbrev pub constant_in : List Signal → ℕ → ℤ → Block
 constant_in signals x v = one (Assign (Whole x) (Constant v (shapes_in signals x)))
+
+-- statements, or the assignment of a constant in their place
+abbrev pub chosen : List Signal → ℕ → Option ℤ → Block → Block
+chosen signals x None b = b
+chosen signals x (Some v) b = constant_in signals x v

@@ -1,6 +1,6 @@
 //! Statements of one signal that read no signal: one assignment of what they give.
 
-ghost use Rattle.std.specs.Prelude.{◌≡◌, ◌+◌, ◌<◌, ◌≤◌, true, length, IsTrue, MatchOption};
+ghost use Rattle.std.specs.Prelude.{◌≡◌, ◌+◌, ◌<◌, ◌≤◌, true, length, IsTrue};
 ghost use Rattle.lx_circuit.specs.Values.{value_of};
 ghost use Rattle.lx_circuit.specs.Statements.{after_pieces, laid_over, pieces, taken, taken_block};
 ghost use Rattle.lx_fhdl.specs.Below.{all_branches_below, all_stmts_below};
@@ -10,7 +10,7 @@ ghost use Rattle.lx_fhdl.specs.Trees.{term_at};
 ghost use Rattle.lx_fhdl.specs.Lowered.{are_for, is_for, is_plain_target};
 ghost use Rattle.lx_lowering.specs.Constants.{block_reads_none, branches_read_none, names_none, reads_none, zeros};
 ghost use Rattle.lx_lower.specs.Drafts.{shapes_in, target_in};
-ghost use Rattle.lx_lower.specs.Fixed.{AreFree, AreNarrow, AreValues, IsFixed, constant_in, folded_in};
+ghost use Rattle.lx_lower.specs.Fixed.{AreFree, AreNarrow, AreValues, IsFixed, chosen, folded_in};
 ghost use Rattle.lx_lower.specs.Over.{AreOver, block_over, stmt_over};
 ghost use Rattle.lx_lower.specs.Puts.{AreThere, IsDraft, block_of, term_of};
 
@@ -212,7 +212,7 @@ pub fn folded_number(
     requires signal { x.0 < length signals.now }
     requires there { AreThere draft.now ids.now }
     requires alone { are_for x.0 (block_of draft.now ids.now) ≡ true }
-    ensures { MatchOption result (block_of draft.now ids.now ≡ folded_in signals.now x.0 (block_of draft.now ids.now)) (λ v. constant_in signals.now x.0 v ≡ folded_in signals.now x.0 (block_of draft.now ids.now)) }
+    ensures { chosen signals.now x.0 result (block_of draft.now ids.now) ≡ folded_in signals.now x.0 (block_of draft.now ids.now) }
 {
     let bound = draft.stmts.len();
     if ids.is_empty() || !block_reads_none(draft, fixed.free.as_slice(), ids, bound) {

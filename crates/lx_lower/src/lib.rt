@@ -8,6 +8,7 @@ pub mod drafts;
 pub mod exprs;
 pub mod fixed;
 pub mod fold;
+pub mod lists;
 pub mod shapes;
 pub mod split;
 pub mod trees;
