@@ -1,6 +1,6 @@
 -- What arenas keep is kept by the trees in them; and so a design that keeps what it must can be lowered.
-use Rattle.std.proofs.Common.{◌≡◌, ℕ, zero, suc, ◌+◌, ◌<◌, ◌≤◌, Bool, true, false, ◌&&◌, List, [], ◌∷◌, ◌++◌, length, refl, sym, ap, subst, ◌∙◌, arith, inl, inr, nat_lt, nat_eq, cond}
-use Rattle.std.specs.Prelude.{Some, map, slice_get, IsTrue}
+use Rattle.std.proofs.Common.{◌≡◌, ℕ, zero, suc, ◌+◌, ◌<◌, ◌≤◌, Bool, true, false, List, [], ◌∷◌, ◌++◌, length, refl, sym, ap, subst, arith, inl, inr, nat_lt, nat_eq, cond}
+use Rattle.std.specs.Prelude.{map}
 use Rattle.std.proofs.lemmas.Bool.{cases_lt, and_parts, ltb-true}
 use Rattle.lx_circuit.specs.Shapes.{Shapes}
 use Rattle.lx_circuit.specs.Statements as tree
@@ -11,7 +11,7 @@ use Rattle.lx_fhdl.specs.Below.{TargetId, StmtId, all_targets_below, target_belo
 use Rattle.lx_fhdl.specs.Designs as design
 use Rattle.lx_fhdl.specs.Designs.{made_of, circuit_of, shapes, stmts_of, domains_from}
 use Rattle.lx_fhdl.specs.Keeping.{EachOf, TargetStands, StmtStands, BranchesStand, PartStands, Keeps}
-use Rattle.lx_fhdl.specs.Stmts.{targets_at, node_target, target_at, block_at, branches_at, arms_at, node_stmt, stmt_at}
+use Rattle.lx_fhdl.specs.Stmts.{targets_at, node_target, block_at, branches_at, arms_at, node_stmt}
 use Rattle.lx_fhdl.specs.Trees.{term_at}
 use Rattle.lx_fhdl.specs.declared.design.Design.{Design}
 use Rattle.lx_fhdl.specs.declared.design.Domain.{Domain}
@@ -28,7 +28,7 @@ use Rattle.lx_fhdl.proofs.Arena.{node_there}
 use Rattle.lx_fhdl.proofs.Designs.{keeps_shapes, signal_small}
 use Rattle.lx_fhdl.proofs.StmtTrees.{lower_at, target_at-is, stmt_at-is}
 use Rattle.lx_lowering.specs.Lowering.{TargetKeeps, TargetsKeep, some_targets, StmtKeeps, BranchesKeep, ArmsKeep, BlockKeeps, CanBeLowered}
-use Rattle.lx_lower.specs.Drafts.{ExprsKeep, TargetIsThere, TargetNodesKeep, StmtIsThere, StmtNodesKeep, DraftKeeps, target_in, stmt_in}
+use Rattle.lx_lower.specs.Drafts.{ExprsKeep, TargetIsThere, TargetNodesKeep, StmtIsThere, DraftKeeps, target_in, stmt_in}
 use Rattle.lx_lower.proofs.Kept.{term_keeps, design_keeps}
 
 -- ---- targets

@@ -1,3 +1,4 @@
 pub mod Drafts
 pub mod Puts
+pub mod Sources
 pub mod Tests
