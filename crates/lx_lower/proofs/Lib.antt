@@ -1,3 +1,4 @@
+pub mod Arms
 pub mod Conditions
 pub mod FromKeeps
 pub mod Growing
