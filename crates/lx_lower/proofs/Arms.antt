@@ -57,9 +57,9 @@ seen_before arms k z key seen now g l e other h i =
 
 -- ---- the condition that an expression is no key
 
-none_last : (s : Shapes) (on : Term) (seen : List ℤ) (none : Option Term) (arms : List Arm) (a : Arm) → none_after s on seen none (arms ++ a ∷ []) ≡ no_key s on (keys_onto seen arms) (none_after s on seen none arms) a.key
-none_last s on seen none [] a = refl
-none_last s on seen none (b ∷ more) a = none_last s on (b.key ∷ seen) (no_key s on seen none b.key) more a
+none_last : (s : Shapes) (on : Term) (seen : List ℤ) (before : Option Term) (arms : List Arm) (a : Arm) → none_after s on seen before (arms ++ a ∷ []) ≡ no_key s on (keys_onto seen arms) (none_after s on seen before arms) a.key
+none_last s on seen before [] a = refl
+none_last s on seen before (b ∷ more) a = none_last s on (b.key ∷ seen) (no_key s on seen before b.key) more a
 
 pub none_more : {ss : List Signal} {xs ys zs : List Expr} {a b : Option ExprId} (arms : List Arm) (k on : ℕ) (z : Arm) → FitsSigned w128 z.key → k < length arms → z ≡ get_or arms k z → on < length xs
     → NonePut ss xs ys a (none_after (shapes_in ss) (term_at xs on) [] None (take k arms))

@@ -1,7 +1,9 @@
 pub mod Arms
 pub mod Conditions
+pub mod Flatten
 pub mod FromKeeps
 pub mod Growing
+pub mod Items
 pub mod Kept
 pub mod Nodes
 pub mod Pieces

@@ -1,5 +1,5 @@
 -- Assignments to the parts of targets that are put one after the other.
-use Rattle.std.proofs.Common.{◌≡◌, ℕ, ◌+◌, ◌<◌, ◌≤◌, ◌≢◌, Bool, true, false, List, [], ◌∷◌, length, drop, get_or, nat_eq, refl, sym, ap, subst, ◌∙◌, arith, drop-cons, add-one, length-drop, eq-eqb, ne_eqb, eqb-true}
+use Rattle.std.proofs.Common.{◌≡◌, ℕ, ◌+◌, ◌<◌, ◌≤◌, ◌≢◌, Bool, true, false, List, [], ◌∷◌, length, drop, get_or, nat_eq, refl, sym, ap, subst, ◌∙◌, arith, length-drop, eq-eqb, ne_eqb, eqb-true}
 use Rattle.std.specs.Prelude.{Some, slice_get, cond}
 use Rattle.lx_circuit.specs.Shapes.{Shapes, shape_of}
 use Rattle.lx_circuit.specs.Statements as tree
@@ -23,6 +23,7 @@ use Rattle.lx_lower.specs.Sources.{HasShape, IsLowered, IsReady, RestPut, choice
 use Rattle.lx_lower.specs.declared.blocks.Draft.{Draft}
 use Rattle.lx_lower.specs.declared.source.Operand.{Operand}
 use Rattle.lx_lower.specs.declared.source.Source.{Source}
+use Rattle.lx_lower.proofs.Items.{next_item, nothing_left}
 use Rattle.lx_lower.proofs.Kept.{shapes_are}
 use Rattle.lx_lower.proofs.Nodes.{target_stands, node_bits_most}
 use Rattle.lx_lower.proofs.Puts.{put_is, some_is, some_more, some_grown, some_all, under_put}
@@ -57,13 +58,6 @@ part_added d k y x low len xs ts keep e l f =
 
 -- ---- parts side by side
 
-nothing_left : (xs : List TargetId) (k : ℕ) → length xs ≤ k → drop k xs ≡ []
-nothing_left xs k l = by_length (drop k xs) (omega (arith, length-drop k xs))
-  where
-    by_length : (ys : List TargetId) → length ys ≡ 0 → ys ≡ []
-    by_length [] h = refl
-    by_length (y ∷ ys) h = absurd (omega arith)
-
 pub rest_put : (s : Source) (old new : List Expr) (w v : Operand) (k low : ℕ) → HasShape (signals_for s) old w → v.shape ≡ w.shape → low ≡ target_bits (design.shapes s.design.now) (design.target s.design.now k)
     → TermPut old new v.id.place (without_low (shapes_for s) low (term_at old w.id.place)) → RestPut s old new w v k false
 rest_put s old new w v k low h e f p =
@@ -74,14 +68,11 @@ rest_put s old new w v k low h e f p =
       tree = λ g. p.tree ∙ ap (λ (n : ℕ). without_low (shapes_for s) n (term_at old w.id.place)) (f ∙ same);
     }
 
-pub next_target : (xs : List TargetId) (k : ℕ) (d : TargetId) → k < length xs → drop k xs ≡ get_or xs k d ∷ drop (k + 1) xs
-next_target xs k d h = drop-cons xs k d h ∙ ap (λ (j : ℕ). get_or xs k d ∷ drop j xs) (sym (add-one k))
-
 -- the parts after one of them, from the number without its bits
 pub parts_next : (s : Shapes) (g : ℕ → tree.Target) (xs : List TargetId) (k : ℕ) (z : TargetId) (e f : Term) (last : Bool) → k < length xs → last ≡ nat_eq (k + 1) (length xs) → (last ≡ false → f ≡ without_low s (target_bits s (g (get_or xs k z).place)) e)
     → parts_assigns s (targets_at g (drop k xs)) e ≡ append (assigns s (g (get_or xs k z).place) e) (parts_assigns s (targets_at g (drop (k + 1) xs)) f)
 parts_next s g xs k z e f last l h t =
-    ap (λ (ys : List TargetId). parts_assigns s (targets_at g ys) e) (next_target xs k z l)
+    ap (λ (ys : List TargetId). parts_assigns s (targets_at g ys) e) (next_item xs k z l)
     ∙ ap (append (assigns s (g (get_or xs k z).place) e)) (by_last last h t)
   where
     by_last : (b : Bool) → b ≡ nat_eq (k + 1) (length xs) → (b ≡ false → f ≡ without_low s (target_bits s (g (get_or xs k z).place)) e)
@@ -98,7 +89,7 @@ parts_next s g xs k z e f last l h t =
 pub items_next : (s : Shapes) (g : ℕ → tree.Target) (xs : List TargetId) (k : ℕ) (z : TargetId) (i e : Term) (last : Bool) → k < length xs → length xs ≢ 1 → last ≡ nat_eq (k + 1) (length xs)
     → items_assigns s k (targets_at g (drop k xs)) i e ≡ append (when (choice s i k last) (assigns s (g (get_or xs k z).place) e)) (items_assigns s (k + 1) (targets_at g (drop (k + 1) xs)) i e)
 items_next s g xs k z i e last l m h =
-    ap (λ (ys : List TargetId). items_assigns s k (targets_at g ys) i e) (next_target xs k z l)
+    ap (λ (ys : List TargetId). items_assigns s k (targets_at g ys) i e) (next_item xs k z l)
     ∙ by_more (drop (k + 1) xs) refl
   where
     own : Block

@@ -13,7 +13,7 @@ use Rattle.lx_fhdl.specs.declared.exprs.Expr.{Expr}
 use Rattle.lx_fhdl.specs.declared.stmts.Target.{Target}
 use Rattle.lx_fhdl.specs.declared.stmts.Stmt.{Stmt}
 use Rattle.lx_fhdl.proofs.StmtTrees.{block_same}
-use Rattle.lx_lowering.specs.Flat.{append, one, when, some_when}
+use Rattle.lx_lowering.specs.Flat.{append, one, when, some_when, first_branch}
 use Rattle.lx_lower.specs.Drafts.{ExprsKeep, TermsStay, TermPut, TargetsStay, TargetNodesKeep, StmtPut, StmtNodesKeep, shapes_in, target_in, stmt_in}
 use Rattle.lx_lower.specs.Puts.{term_of, block_of, IsDraft, AreThere, Grows, Put, PutSome}
 use Rattle.lx_lower.specs.declared.blocks.Draft.{Draft}
@@ -174,3 +174,11 @@ when_none c x so e = ap (λ (is : List StmtId). some_when c (block_of x is)) (sy
 pub when_some : (c : Term) (x : Draft) (so : List StmtId) → (so ≡ [] → ⊥) → when c (block_of x so) ≡ some_when c (block_of x so)
 when_some c x [] h = absurd (h refl)
 when_some c x (i ∷ is) h = refl
+
+pub branch_none : (c : Term) (x : Draft) (so other : List StmtId) → so ≡ [] → other ≡ [] → Done ≡ first_branch c (block_of x so) tree.NoBranch Done (block_of x other)
+branch_none c x so other e f = sym (ap (λ (is : List StmtId). first_branch c (block_of x is) tree.NoBranch Done (block_of x other)) e ∙ ap (λ (is : List StmtId). first_branch c Done tree.NoBranch Done (block_of x is)) f)
+
+pub branch_some : (c : Term) (x : Draft) (so other : List StmtId) → (so ≡ [] → other ≡ [] → ⊥) → one (tree.If (tree.Branch c (block_of x so) tree.NoBranch) (block_of x other)) ≡ first_branch c (block_of x so) tree.NoBranch Done (block_of x other)
+branch_some c x [] [] h = absurd (h refl refl)
+branch_some c x [] (i ∷ is) h = refl
+branch_some c x (i ∷ is) other h = refl

@@ -6,6 +6,7 @@ pub mod bits;
 pub mod blocks;
 pub mod conds;
 pub mod drafts;
+pub mod flat;
 pub mod keys;
 pub mod source;
 
