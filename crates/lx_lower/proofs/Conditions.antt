@@ -13,11 +13,11 @@ use Rattle.lx_fhdl.specs.Trees.{term_at}
 use Rattle.lx_fhdl.specs.declared.exprs.Expr.{Expr}
 use Rattle.lx_lowering.specs.Flat.{is_among_keys, is_value, key_of, is_key, and_none, no_key}
 use Rattle.lx_lowering.specs.Terms.{never}
-use Rattle.lx_lower.specs.Drafts.{ExprsKeep}
+use Rattle.lx_lower.specs.Drafts.{ExprsAreSound}
 use Rattle.lx_lower.proofs.Kept.{shape_small}
 
 -- the shape that stands for an expression is small
-pub small_shape : (s : Shapes) (n : ℕ) (xs : List Expr) (k : ℕ) (a : Shape) → ExprsKeep s n xs → k < length xs → shape_of s (term_at xs k) ≡ a → IsSmall a
+pub small_shape : (s : Shapes) (n : ℕ) (xs : List Expr) (k : ℕ) (a : Shape) → ExprsAreSound s n xs → k < length xs → shape_of s (term_at xs k) ≡ a → IsSmall a
 small_shape s n xs k a keep l e = subst (λ (b : Shape). IsSmall b) e (shape_small s n xs k keep l)
 
 -- a number of 64 bits is less than 2 to 64 or more bits

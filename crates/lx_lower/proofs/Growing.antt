@@ -1,5 +1,5 @@
 -- Arenas that grow by a node: the trees that were there stay, and what was kept is kept.
-use Rattle.std.proofs.Common.{◌≡◌, ℕ, zero, suc, ◌+◌, ◌<◌, ◌≤◌, List, [], ◌∷◌, ◌++◌, length, refl, sym, ap, subst, ◌∙◌, arith, inl, inr, length-append}
+use Rattle.std.proofs.Common.{◌≡◌, ℕ, zero, suc, ◌+◌, ◌<◌, ◌≤◌, true, List, [], ◌∷◌, ◌++◌, length, refl, sym, ap, subst, ◌∙◌, arith, inl, inr, length-append}
 use Rattle.std.specs.Prelude.{Option, Some, None, slice_get, IfSome, IsTrue}
 use Rattle.std.proofs.lemmas.Bool.{cases_lt}
 use Rattle.lx_arena.specs.Lower.{EachLower}
@@ -8,6 +8,7 @@ use Rattle.lx_circuit.specs.Shapes.{Shapes, fault_of}
 use Rattle.lx_circuit.specs.Statements as tree
 use Rattle.lx_fhdl.specs.Below.{expr_below, target_below, stmt_below}
 use Rattle.lx_fhdl.specs.Keeping.{NamesBelow, TakesOperands}
+use Rattle.lx_fhdl.specs.Lowered.{is_no_pick}
 use Rattle.lx_fhdl.specs.Nodes.{HasParts}
 use Rattle.lx_fhdl.specs.Stmts.{node_target, target_of, target_within, target_at, node_stmt, stmt_of, stmt_within, stmt_at}
 use Rattle.lx_fhdl.specs.Trees.{node_term, term_of, term_below, term_at}
@@ -16,7 +17,7 @@ use Rattle.lx_fhdl.specs.declared.stmts.Target.{Target}
 use Rattle.lx_fhdl.specs.declared.stmts.Stmt.{Stmt}
 use Rattle.lx_fhdl.proofs.Trees.{node_same, term_at-is}
 use Rattle.lx_fhdl.proofs.StmtTrees.{node_target_same, target_at-is, node_stmt_same, stmt_at-is}
-use Rattle.lx_lower.specs.Drafts.{ExprsKeep, CanAddExpr, TermsStay, TermPut, TargetIsThere, TargetNodesKeep, CanAddTarget, TargetsStay, TargetPut, StmtIsThere, StmtNodesKeep, CanAddStmt, StmtsStay, StmtPut}
+use Rattle.lx_lower.specs.Drafts.{ExprsAreSound, ExprIsSound, ExprsKeep, CanAddExpr, TermsStay, TermPut, TargetIsThere, TargetNodesKeep, CanAddTarget, TargetsStay, TargetPut, StmtIsThere, StmtNodesKeep, CanAddStmt, StmtsStay, StmtPut}
 
 -- ---- lists that grow at the end
 
@@ -44,7 +45,7 @@ below_more P n m e f h k l =
       | inr p ↦ let q : n ≡ k = omega arith in subst P q h
     ]
 
-one_longer : {X : Type 0} (xs : List X) (y : X) → length (xs ++ y ∷ []) ≡ length xs + 1
+pub one_longer : {X : Type 0} (xs : List X) (y : X) → length (xs ++ y ∷ []) ≡ length xs + 1
 one_longer xs y = omega (arith, length-append xs (y ∷ []))
 
 -- the same trees below n
@@ -86,19 +87,25 @@ term_put old x low below =
       tree = term_at-is (old ++ x ∷ []) low (length old) x (get_last old x) ∙ node_same (term_at (old ++ x ∷ [])) (term_at old) (length old) x terms.stays (search below);
     }
 
-pub exprs_more : (s : Shapes) (n : ℕ) (old : List Expr) (x : Expr) → ExprsKeep s n old → CanAddExpr s n old x → EachLower expr_below (old ++ x ∷ []) → ExprsKeep s n (old ++ x ∷ [])
-exprs_more s n old x keep node low =
+pub sound_more : (s : Shapes) (n : ℕ) (old : List Expr) (x : Expr) → ExprsAreSound s n old → ExprIsSound s n old x → EachLower expr_below (old ++ x ∷ []) → ExprsAreSound s n (old ++ x ∷ [])
+sound_more s n old x sound node low =
     let put = term_put old x low node.below in
     record {
-      small = keep.small;
+      small = sound.small;
       lower = low;
       shaped = below_more (λ k. fault_of s (term_at (old ++ x ∷ []) k) ≡ None) (length old) (length (old ++ x ∷ [])) (one_longer old x)
-          (λ k l. ap (fault_of s) (put.terms.stays k l) ∙ keep.shaped k l)
+          (λ k l. ap (fault_of s) (put.terms.stays k l) ∙ sound.shaped k l)
           (ap (fault_of s) put.tree ∙ node.shaped);
-      operands = each_more TakesOperands old x keep.operands node.operands;
-      parts = each_more HasParts old x keep.parts node.parts;
-      named = each_more (NamesBelow n) old x keep.named node.named;
+      operands = each_more TakesOperands old x sound.operands node.operands;
+      parts = each_more HasParts old x sound.parts node.parts;
+      named = each_more (NamesBelow n) old x sound.named node.named;
     }
+
+pub exprs_more : (s : Shapes) (n : ℕ) (old : List Expr) (x : Expr) → ExprsKeep s n old → CanAddExpr s n old x → EachLower expr_below (old ++ x ∷ []) → ExprsKeep s n (old ++ x ∷ [])
+exprs_more s n old x keep node low = record {
+  sound = sound_more s n old x keep.sound node.sound low;
+  plain = each_more (λ y. is_no_pick y ≡ true) old x keep.plain node.plain;
+}
 
 -- ---- targets
 

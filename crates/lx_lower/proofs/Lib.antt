@@ -1,11 +1,14 @@
 pub mod Arms
+pub mod Choices
 pub mod Conditions
-pub mod Flatten
+pub mod Flats
 pub mod FromKeeps
 pub mod Growing
 pub mod Items
 pub mod Kept
+pub mod Moved
 pub mod Nodes
 pub mod Pieces
 pub mod Puts
+pub mod Shaped
 pub mod Staying

@@ -1,13 +1,15 @@
 -- Assignments to the parts of targets that are put one after the other.
 use Rattle.std.proofs.Common.{◌≡◌, ℕ, ◌+◌, ◌<◌, ◌≤◌, ◌≢◌, Bool, true, false, List, [], ◌∷◌, length, drop, get_or, nat_eq, refl, sym, ap, subst, ◌∙◌, arith, length-drop, eq-eqb, ne_eqb, eqb-true}
 use Rattle.std.specs.Prelude.{Some, slice_get, cond}
+use Rattle.lx_num.specs.declared.Shape.{Shape}
 use Rattle.lx_circuit.specs.Shapes.{Shapes, shape_of}
 use Rattle.lx_circuit.specs.Statements as tree
 use Rattle.lx_circuit.specs.Statements.{Block, Done, target_bits, NoTarget, MoreTargets}
 use Rattle.lx_circuit.specs.Terms.{Term}
-use Rattle.lx_fhdl.specs.Below.{TargetId, StmtId}
+use Rattle.lx_fhdl.specs.Below.{ExprId, TargetId, StmtId}
 use Rattle.lx_fhdl.specs.Designs as design
 use Rattle.lx_fhdl.specs.Keeping.{Keeps}
+use Rattle.lx_fhdl.specs.Nodes.{shape_at}
 use Rattle.lx_fhdl.specs.Stmts.{targets_at}
 use Rattle.lx_fhdl.specs.Trees.{term_at}
 use Rattle.lx_fhdl.specs.declared.design.Design.{Design}
@@ -17,10 +19,12 @@ use Rattle.lx_fhdl.specs.declared.exprs.SigId.{SigId}
 use Rattle.lx_fhdl.specs.declared.stmts.Target.{Target}
 use Rattle.lx_fhdl.specs.declared.stmts.Target.TheVariants as target
 use Rattle.lx_lowering.specs.Flat.{append, when, without_low, is_last, item_assigns, assigns, parts_assigns, items_assigns}
-use Rattle.lx_lower.specs.Drafts.{CanAddTarget, TermsStay, TermPut, shapes_in}
+use Rattle.lx_lower.specs.Drafts.{ExprsKeep, DraftKeeps, CanAddTarget, TermsStay, TermPut, shapes_in}
+use Rattle.lx_lower.specs.Exprs.{ExprsAreLowered, place_at}
 use Rattle.lx_lower.specs.Puts.{term_of, block_of, AreThere, Grows, Put, PutSome}
-use Rattle.lx_lower.specs.Sources.{HasShape, IsLowered, IsReady, RestPut, choice, place_at, shapes_for, signals_for}
+use Rattle.lx_lower.specs.Sources.{HasShape, IsLowered, IsReady, RestPut, choice, shapes_for, signals_for}
 use Rattle.lx_lower.specs.declared.blocks.Draft.{Draft}
+use Rattle.lx_lower.specs.declared.exprs.LoweredExprs.{LoweredExprs}
 use Rattle.lx_lower.specs.declared.source.Operand.{Operand}
 use Rattle.lx_lower.specs.declared.source.Source.{Source}
 use Rattle.lx_lower.proofs.Items.{next_item, nothing_left}
@@ -43,6 +47,30 @@ lowered_kept {s} g h = record {
 -- a draft that grew is ready, for statements at the end of another list
 pub ready_for : {s : Source} {x y : Draft} {a : List StmtId} (b : List StmtId) → IsReady s x a → Grows (signals_for s) x y → AreThere y b → IsReady s y b
 ready_for b r g there = record { source = r.source; lowered = lowered_kept g.stays.terms r.lowered; draft = g.keeps; there = there }
+
+-- a draft of lowered expressions without statements
+no_statements : (s : Shapes) (n : ℕ) (xs : List Expr) → ExprsKeep s n xs → DraftKeeps s n xs [] []
+no_statements s n xs keep = record {
+  exprs = keep;
+  targets = record { lower = λ k. tt; there = λ k x e. absurd (cc); bits = λ k l. absurd (omega arith) };
+  stmts = record { lower = λ k. tt; there = λ k x e. absurd (cc) };
+}
+
+-- it is ready
+pub ready_first : (s : Source) (l : LoweredExprs) (x : Draft) → Keeps s.design.now → ExprsAreLowered (shapes_for s) s.design.now l → s.places.now ≡ l.places → s.shapes.now ≡ l.shapes → x ≡ record { exprs = l.exprs; targets = []; stmts = [] } → IsReady s x []
+ready_first s l x keep lowered places shapes e =
+    let n = λ (k : ℕ) (h : k < length s.design.now.exprs). let m : k < length l.places = omega (arith, lowered.long) in m in
+    let own : IsReady s (record { exprs = l.exprs; targets = []; stmts = [] }) [] = record {
+      source = record { keeps = keep; places = ap length places ∙ lowered.long; shapes = ap length shapes ∙ lowered.long_shapes };
+      lowered = record {
+        within = λ k h. subst (λ (is : List ExprId). place_at is k < length l.exprs) (sym places) (lowered.moved.within k (n k h));
+        trees = λ k h. ap (λ (is : List ExprId). term_at l.exprs (place_at is k)) places ∙ lowered.moved.trees k (n k h);
+        shapes = λ k h. ap (λ (is : List ExprId). shape_of (shapes_for s) (term_at l.exprs (place_at is k))) places ∙ lowered.shapes k h ∙ ap (λ (hs : List Shape). shape_at hs k) (sym shapes);
+      };
+      draft = no_statements (shapes_for s) (length s.design.now.signals) l.exprs lowered.keep;
+      there = search;
+    } in
+    subst (λ (y : Draft). IsReady s y []) (sym e) own
 
 -- ---- a signal, or some of its bits
 

@@ -1,5 +1,5 @@
 -- Trees that stay while the arenas below them grow, and growth in several steps.
-use Rattle.std.proofs.Common.{◌≡◌, ℕ, zero, suc, ◌≤◌, List, [], ◌∷◌, length, refl, sym, ap, subst, ◌∙◌, arith}
+use Rattle.std.proofs.Common.{◌≡◌, ℕ, zero, suc, ◌<◌, ◌≤◌, List, [], ◌∷◌, length, refl, sym, ap, subst, ◌∙◌, arith}
 use Rattle.std.specs.Prelude.{Option, Some, None, slice_get, IfSome, IsTrue}
 use Rattle.lx_circuit.specs.Terms.{Term}
 use Rattle.lx_circuit.specs.Shapes.{Shapes, shape_of}
@@ -25,6 +25,10 @@ terms_same xs = record { longer = omega arith; stays = λ k l. refl }
 
 pub terms_then : (a b c : List Expr) → TermsStay a b → TermsStay b c → TermsStay a c
 terms_then a b c g h = record { longer = omega (arith, g.longer, h.longer); stays = λ k l. h.stays k (omega (arith, g.longer)) ∙ g.stays k l }
+
+-- an expression that stands already
+pub put_same : (xs : List Expr) (k : ℕ) (t : Term) → k < length xs → term_at xs k ≡ t → TermPut xs xs k t
+put_same xs k t l e = record { terms = terms_same xs; within = l; tree = e }
 
 -- a tree that was put stays
 pub put_then : (a b c : List Expr) (i : ℕ) (t : Term) → TermPut a b i t → TermsStay b c → TermPut a c i t

@@ -1,5 +1,5 @@
 -- What the arenas of a lowered design keep while they are filled, over the shapes of signals and their number.
-use Rattle.std.specs.Prelude.{◌≡◌, ℕ, false, List, Some, None, ◌+◌, ◌<◌, ◌≤◌, map, length, slice_get, slice_index_or, IsTrue}
+use Rattle.std.specs.Prelude.{◌≡◌, ℕ, true, false, List, Some, None, ◌+◌, ◌<◌, ◌≤◌, map, length, slice_get, slice_index_or, IsTrue}
 use Rattle.lx_arena.specs.Lower.{EachLower}
 use Rattle.lx_circuit.specs.Terms.{Term}
 use Rattle.lx_circuit.specs.Shapes.{Shapes, shape_of, fault_of}
@@ -8,6 +8,7 @@ use Rattle.lx_circuit.specs.Circuit.{nothing}
 use Rattle.lx_fhdl.specs.Below.{expr_below, target_below, stmt_below}
 use Rattle.lx_fhdl.specs.Designs.{made_of}
 use Rattle.lx_fhdl.specs.Keeping.{NamesBelow, TakesOperands, BranchesStand}
+use Rattle.lx_fhdl.specs.Lowered.{is_no_pick}
 use Rattle.lx_fhdl.specs.Nodes.{HasParts, IsSmall}
 use Rattle.lx_fhdl.specs.Stmts.{node_target, target_at, stmt_at}
 use Rattle.lx_fhdl.specs.Trees.{node_term, term_at}
@@ -25,7 +26,7 @@ shapes_in signals x = (slice_index_or (map made_of signals) x nothing).shape
 -- ---- expressions
 
 -- signals are small, children stand before their nodes, and no expression has a fault
-pub record ExprsKeep (s : Shapes) (n : ℕ) (xs : List Expr) : Type 0 where
+pub record ExprsAreSound (s : Shapes) (n : ℕ) (xs : List Expr) : Type 0 where
   pub small : (x : ℕ) → x < n → IsSmall (s x)
   pub lower : EachLower expr_below xs
   pub shaped : (k : ℕ) → k < length xs → fault_of s (term_at xs k) ≡ None
@@ -33,13 +34,23 @@ pub record ExprsKeep (s : Shapes) (n : ℕ) (xs : List Expr) : Type 0 where
   pub parts : (k : ℕ) (x : Expr) → slice_get xs k ≡ Some x → HasParts x
   pub named : (k : ℕ) (x : Expr) → slice_get xs k ≡ Some x → NamesBelow n x
 
--- a node that can be added to them
-pub record CanAddExpr (s : Shapes) (n : ℕ) (xs : List Expr) (x : Expr) : Type 0 where
+-- a node that can stand beside them
+pub record ExprIsSound (s : Shapes) (n : ℕ) (xs : List Expr) (x : Expr) : Type 0 where
   pub below : IsTrue (expr_below x (length xs))
   pub shaped : fault_of s (node_term (term_at xs) x) ≡ None
   pub operands : TakesOperands x
   pub parts : HasParts x
   pub named : NamesBelow n x
+
+-- sound expressions, none of which picks an item from a list
+pub record ExprsKeep (s : Shapes) (n : ℕ) (xs : List Expr) : Type 0 where
+  pub sound : ExprsAreSound s n xs
+  pub plain : (k : ℕ) (x : Expr) → slice_get xs k ≡ Some x → is_no_pick x ≡ true
+
+-- a node that can be added to them
+pub record CanAddExpr (s : Shapes) (n : ℕ) (xs : List Expr) (x : Expr) : Type 0 where
+  pub sound : ExprIsSound s n xs x
+  pub plain : is_no_pick x ≡ true
 
 -- the trees of old hang in new too
 pub record TermsStay (old new : List Expr) : Type 0 where

@@ -1,4 +1,5 @@
 pub mod Drafts
+pub mod Exprs
 pub mod Keys
 pub mod Puts
 pub mod Sources

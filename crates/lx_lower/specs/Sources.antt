@@ -1,11 +1,10 @@
 -- A design whose expressions are lowered, and the draft where they hang.
-use Rattle.std.specs.Prelude.{◌≡◌, ℕ, Bool, true, false, List, ◌<◌, length, slice_index_or}
+use Rattle.std.specs.Prelude.{◌≡◌, ℕ, Bool, true, false, List, ◌<◌, length}
 use Rattle.lx_circuit.specs.Shapes.{Shapes, shape_of}
 use Rattle.lx_circuit.specs.Statements.{target_bits}
 use Rattle.lx_circuit.specs.Terms.{Term}
-use Rattle.lx_fhdl.specs.Below.{ExprId, StmtId}
+use Rattle.lx_fhdl.specs.Below.{StmtId}
 use Rattle.lx_fhdl.specs.Designs as design
-use Rattle.lx_fhdl.specs.Instance.{the_expr}
 use Rattle.lx_fhdl.specs.Keeping.{Keeps}
 use Rattle.lx_fhdl.specs.Nodes.{shape_at}
 use Rattle.lx_fhdl.specs.Trees.{term_at}
@@ -14,13 +13,11 @@ use Rattle.lx_fhdl.specs.declared.exprs.Expr.{Expr}
 use Rattle.lx_lowering.specs.Flat.{without_low, is_last}
 use Rattle.lx_lowering.specs.Terms.{is_item, lower_term}
 use Rattle.lx_lower.specs.Drafts.{TermsStay, shapes_in}
+use Rattle.lx_lower.specs.Exprs.{place_at}
 use Rattle.lx_lower.specs.Puts.{IsDraft, AreThere}
 use Rattle.lx_lower.specs.declared.blocks.Draft.{Draft}
 use Rattle.lx_lower.specs.declared.source.Operand.{Operand}
 use Rattle.lx_lower.specs.declared.source.Source.{Source}
-
-abbrev pub place_at : List ExprId → ℕ → ℕ
-place_at places k = (slice_index_or places k (the_expr 0)).place
 
 -- an expression that is there, of this shape
 pub record HasShape (ss : List Signal) (xs : List Expr) (v : Operand) : Type 0 where

@@ -20,6 +20,17 @@ pub struct Draft {
     pub stmts: Stmts,
 }
 
+/// A draft with these expressions and no statement.
+pub fn start_draft(alloc: Global, exprs: Exprs) -> Draft
+    ensures { result ≡ record { exprs = exprs; targets = []; stmts = [] } }
+{
+    Draft {
+        exprs,
+        targets: Targets::new(alloc),
+        stmts: Stmts::new(alloc),
+    }
+}
+
 /// Adds a statement whose parts stand already.
 fn put_node(
     signals: &[Signal],

@@ -59,6 +59,23 @@ fn push_and_fails(
     push_and(signals, exprs, none, fails)
 }
 
+/// Adds the flat statements of some statements of the design, and gives their places.
+pub fn flatten(
+    alloc: Global,
+    source: &Source,
+    draft: &mut Draft,
+    ids: &[StmtId],
+) -> Result<List<StmtId>, NoMemory>
+    requires ready { IsReady source.now draft.old [] }
+    requires there { IsTrue (all_stmts_below (length source.now.design.now.stmts) ids.now) }
+    ensures { IfOk result (λ list. Put (signals_for source.now) draft.old draft.new [] list (flat_block (shapes_for source.now) (designs.block source.now.design.now ids.now))) }
+{
+    let mut out = List::new(alloc);
+    let bound = source.design.stmts.len();
+    put_flat_block(alloc, source, draft, ids, bound, &mut out)?;
+    Ok(out)
+}
+
 /// Adds the flat statements of a statement.
 #[cycle(flat)]
 pub fn put_flat(

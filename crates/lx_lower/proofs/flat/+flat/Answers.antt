@@ -8,7 +8,7 @@ use Rattle.lx_lowering.specs.Flat.{assigns, flat, flat_arms, flat_block, otherwi
 use Rattle.lx_lower.specs.Keys.{none_after, seen_keys}
 use Rattle.lx_lower.specs.Puts.{term_of}
 use Rattle.lx_lower.specs.Sources.{shapes_for}
-use Rattle.lx_lower.proofs.Flatten.{if_lower, block_more, block_done, under_some_put, bit_kept, none_bit, chain_more, arms_more, arms_done, arms_are, after_first, fails_bit, several_put, lone_put, no_items, otherwise_empty, some_none, no_none}
+use Rattle.lx_lower.proofs.Flats.{if_lower, block_more, block_done, under_some_put, bit_kept, none_bit, chain_more, arms_more, arms_done, arms_are, after_first, fails_bit, several_put, lone_put, no_items, otherwise_empty, some_none, no_none}
 use Rattle.lx_lower.proofs.Items.{cond_at, body_at, arm_body_at, conds_after, bodies_after}
 use Rattle.lx_lower.proofs.Nodes.{stmt_tree, stmt_stands, stmt_below_at}
 use Rattle.lx_lower.proofs.Pieces.{ready_for}
@@ -144,7 +144,7 @@ put_arms-loop-number-preserved t c =
     let here = rw c.as_slice-signals.ensures at c.in_ok-here.ensures in
     let own = rw c.as_slice.ensures at c.in_ok-put_under.ensures in
     let grows = grows_put _ _ _ _ _ so.grows.keeps here.ok here.keep in
-    arms_more _ c.args.arms.now c.loop-number.number c.index-arms-number.result _ c.args.on.id.place c.in_ok-here.here.place c.loop-number-test.true c.index-arms-number.is fits (term_kept c.args.on.id.place so.grows c.requires.on.there) so grows here.ok.tree own
+    arms_more (designs.stmt c.args.source.now.design.now) c.args.arms.now c.loop-number.number c.index-arms-number.result _ c.args.on.id.place c.in_ok-here.here.place c.loop-number-test.true c.index-arms-number.is fits (term_kept c.args.on.id.place so.grows c.requires.on.there) so grows here.ok.tree own
 
 pub put_arms-returns : goal.put_arms-returns
 put_arms-returns t c = arms_done (designs.stmt c.args.source.now.design.now) c.args.arms.now c.loop-number.number (term_of c.args.draft.now c.args.on.id.place) (seen_keys (take c.loop-number.number c.args.arms.now)) (omega arith) c.loop-number.invariant
