@@ -1,6 +1,6 @@
 -- What arenas keep is kept by the trees in them; and so a design that keeps what it must can be lowered.
-use Rattle.std.proofs.Common.{◌≡◌, ℕ, zero, suc, ◌+◌, ◌<◌, ◌≤◌, Bool, true, false, ◌&&◌, List, [], ◌∷◌, ◌++◌, length, refl, sym, ap, subst, ◌∙◌, arith, inl, inr, nat_lt, nat_eq, cond}
-use Rattle.std.specs.Prelude.{Some, map, slice_get, IsTrue}
+use Rattle.std.proofs.Common.{◌≡◌, ℕ, zero, suc, ◌+◌, ◌<◌, ◌≤◌, Bool, true, false, List, [], ◌∷◌, ◌++◌, length, refl, sym, ap, subst, arith, inl, inr, nat_lt, nat_eq, cond}
+use Rattle.std.specs.Prelude.{map}
 use Rattle.std.proofs.lemmas.Bool.{cases_lt, and_parts, ltb-true}
 use Rattle.lx_circuit.specs.Shapes.{Shapes}
 use Rattle.lx_circuit.specs.Statements as tree
@@ -11,7 +11,7 @@ use Rattle.lx_fhdl.specs.Below.{TargetId, StmtId, all_targets_below, target_belo
 use Rattle.lx_fhdl.specs.Designs as design
 use Rattle.lx_fhdl.specs.Designs.{made_of, circuit_of, shapes, stmts_of, domains_from}
 use Rattle.lx_fhdl.specs.Keeping.{EachOf, TargetStands, StmtStands, BranchesStand, PartStands, Keeps}
-use Rattle.lx_fhdl.specs.Stmts.{targets_at, node_target, target_at, block_at, branches_at, arms_at, node_stmt, stmt_at}
+use Rattle.lx_fhdl.specs.Stmts.{targets_at, node_target, block_at, branches_at, arms_at, node_stmt}
 use Rattle.lx_fhdl.specs.Trees.{term_at}
 use Rattle.lx_fhdl.specs.declared.design.Design.{Design}
 use Rattle.lx_fhdl.specs.declared.design.Domain.{Domain}
@@ -28,8 +28,8 @@ use Rattle.lx_fhdl.proofs.Arena.{node_there}
 use Rattle.lx_fhdl.proofs.Designs.{keeps_shapes, signal_small}
 use Rattle.lx_fhdl.proofs.StmtTrees.{lower_at, target_at-is, stmt_at-is}
 use Rattle.lx_lowering.specs.Lowering.{TargetKeeps, TargetsKeep, some_targets, StmtKeeps, BranchesKeep, ArmsKeep, BlockKeeps, CanBeLowered}
-use Rattle.lx_lower.specs.Drafts.{ExprsKeep, TargetIsThere, TargetNodesKeep, StmtIsThere, StmtNodesKeep, DraftKeeps, target_in, stmt_in}
-use Rattle.lx_lower.proofs.Kept.{term_keeps, design_keeps}
+use Rattle.lx_lower.specs.Drafts.{ExprsAreSound, TargetIsThere, TargetNodesKeep, StmtIsThere, StmtNodesKeep, target_in, stmt_in}
+use Rattle.lx_lower.proofs.Kept.{term_keeps, design_sound}
 
 -- ---- targets
 
@@ -43,13 +43,13 @@ parts_keep s n g k (i ∷ is) h b =
     let p = and_parts (nat_lt i.place k) (all_targets_below k is) b in
     (h i.place (ltb-true i.place k p.0), parts_keep s n g k is h p.1)
 
-node_keeps : (s : Shapes) (n : ℕ) (xs : List Expr) (g : ℕ → tree.Target) (k : ℕ) (x : Target) → ExprsKeep s n xs → TargetIsThere s n xs x → ((j : ℕ) → j < k → TargetKeeps s n (g j)) → target_below x k ≡ true → TargetKeeps s n (node_target (term_at xs) g x)
+node_keeps : (s : Shapes) (n : ℕ) (xs : List Expr) (g : ℕ → tree.Target) (k : ℕ) (x : Target) → ExprsAreSound s n xs → TargetIsThere s n xs x → ((j : ℕ) → j < k → TargetKeeps s n (g j)) → target_below x k ≡ true → TargetKeeps s n (node_target (term_at xs) g x)
 node_keeps s n xs g k (target.Whole x) keep t h b = t
 node_keeps s n xs g k (target.Part x low len) keep t h b = t
 node_keeps s n xs g k (target.Cat parts) keep t h b = (some_there g parts t, parts_keep s n g k parts h b)
 node_keeps s n xs g k (target.Pick items index) keep t h b = (some_there g items t.0, parts_keep s n g k items h b, term_keeps s n xs index.place keep t.1, t.2)
 
-targets_below_keep : (s : Shapes) (n : ℕ) (xs : List Expr) (ts : List Target) → ExprsKeep s n xs → TargetNodesKeep s n xs ts → (m : ℕ) → m ≤ length ts → (k : ℕ) → k < m → TargetKeeps s n (target_in xs ts k)
+targets_below_keep : (s : Shapes) (n : ℕ) (xs : List Expr) (ts : List Target) → ExprsAreSound s n xs → TargetNodesKeep s n xs ts → (m : ℕ) → m ≤ length ts → (k : ℕ) → k < m → TargetKeeps s n (target_in xs ts k)
 targets_below_keep s n xs ts keep targets zero h k q = absurd (omega arith)
 targets_below_keep s n xs ts keep targets (suc m) h k q =
     elim (cases_lt k m) [
@@ -63,7 +63,7 @@ targets_below_keep s n xs ts keep targets (suc m) h k q =
     ]
 
 -- the tree of the target at a place keeps
-pub target_keeps : (s : Shapes) (n : ℕ) (xs : List Expr) (ts : List Target) (k : ℕ) → ExprsKeep s n xs → TargetNodesKeep s n xs ts → k < length ts → TargetKeeps s n (target_in xs ts k)
+pub target_keeps : (s : Shapes) (n : ℕ) (xs : List Expr) (ts : List Target) (k : ℕ) → ExprsAreSound s n xs → TargetNodesKeep s n xs ts → k < length ts → TargetKeeps s n (target_in xs ts k)
 target_keeps s n xs ts k keep targets l = targets_below_keep s n xs ts keep targets (length ts) (omega arith) k l
 
 -- ---- statements
@@ -74,7 +74,7 @@ block_keeps s n h k (i ∷ is) p b =
     let q = and_parts (nat_lt i.place k) (all_stmts_below k is) b in
     (p i.place (ltb-true i.place k q.0), block_keeps s n h k is p q.1)
 
-branches_keep : (s : Shapes) (n : ℕ) (xs : List Expr) (h : ℕ → tree.Stmt) (k : ℕ) (bs : List Branch) → ExprsKeep s n xs → BranchesStand (length xs) bs → ((j : ℕ) → j < k → StmtKeeps s n (h j)) → all_branches_below k bs ≡ true → BranchesKeep s n (branches_at (term_at xs) h bs)
+branches_keep : (s : Shapes) (n : ℕ) (xs : List Expr) (h : ℕ → tree.Stmt) (k : ℕ) (bs : List Branch) → ExprsAreSound s n xs → BranchesStand (length xs) bs → ((j : ℕ) → j < k → StmtKeeps s n (h j)) → all_branches_below k bs ≡ true → BranchesKeep s n (branches_at (term_at xs) h bs)
 branches_keep s n xs h k [] keep t p b = tt
 branches_keep s n xs h k (x ∷ more) keep t p b =
     let q = and_parts (all_stmts_below k x.body) (all_branches_below k more) b in
@@ -86,7 +86,7 @@ arms_keep s n h k (x ∷ more) p b =
     let q = and_parts (all_stmts_below k x.body) (all_arms_below k more) b in
     (block_keeps s n h k x.body p q.0, arms_keep s n h k more p q.1)
 
-node_stmt_keeps : (s : Shapes) (n : ℕ) (xs : List Expr) (ts : List Target) (h : ℕ → tree.Stmt) (k : ℕ) (x : Stmt) → ExprsKeep s n xs → TargetNodesKeep s n xs ts → StmtIsThere (length xs) (length ts) x → ((j : ℕ) → j < k → StmtKeeps s n (h j)) → stmt_below x k ≡ true
+node_stmt_keeps : (s : Shapes) (n : ℕ) (xs : List Expr) (ts : List Target) (h : ℕ → tree.Stmt) (k : ℕ) (x : Stmt) → ExprsAreSound s n xs → TargetNodesKeep s n xs ts → StmtIsThere (length xs) (length ts) x → ((j : ℕ) → j < k → StmtKeeps s n (h j)) → stmt_below x k ≡ true
     → StmtKeeps s n (node_stmt (term_at xs) (target_in xs ts) h x)
 node_stmt_keeps s n xs ts h k (stmt.Assign target value line) keep targets t p b =
     (target_keeps s n xs ts target.place keep targets t.0, targets.bits target.place t.0, term_keeps s n xs value.place keep t.1)
@@ -97,22 +97,22 @@ node_stmt_keeps s n xs ts h k (stmt.Case on arms rest line) keep targets t p b =
     let q = and_parts (all_arms_below k arms) (all_stmts_below k rest) b in
     (term_keeps s n xs on.place keep t, arms_keep s n h k arms p q.0, block_keeps s n h k rest p q.1)
 
-stmts_below_keep : (s : Shapes) (n : ℕ) (xs : List Expr) (ts : List Target) (ss : List Stmt) → DraftKeeps s n xs ts ss → (m : ℕ) → m ≤ length ss → (k : ℕ) → k < m → StmtKeeps s n (stmt_in xs ts ss k)
-stmts_below_keep s n xs ts ss keep zero h k q = absurd (omega arith)
-stmts_below_keep s n xs ts ss keep (suc m) h k q =
+stmts_below_keep : (s : Shapes) (n : ℕ) (xs : List Expr) (ts : List Target) (ss : List Stmt) → ExprsAreSound s n xs → TargetNodesKeep s n xs ts → StmtNodesKeep (length xs) (length ts) ss → (m : ℕ) → m ≤ length ss → (k : ℕ) → k < m → StmtKeeps s n (stmt_in xs ts ss k)
+stmts_below_keep s n xs ts ss keep targets stmts zero h k q = absurd (omega arith)
+stmts_below_keep s n xs ts ss keep targets stmts (suc m) h k q =
     elim (cases_lt k m) [
-      | inl r ↦ stmts_below_keep s n xs ts ss keep m (omega arith) k r
+      | inl r ↦ stmts_below_keep s n xs ts ss keep targets stmts m (omega arith) k r
       | inr r ↦
           let e : m ≡ k = omega arith in
           let within : m < length ss = omega arith in
           let (x, found) = node_there ss m within in
-          let own = node_stmt_keeps s n xs ts (stmt_in xs ts ss) m x keep.exprs keep.targets (keep.stmts.there m x found) (λ j i. stmts_below_keep s n xs ts ss keep m (omega arith) j i) (lower_at stmt_below ss keep.stmts.lower m x found) in
-          subst (λ (j : ℕ). StmtKeeps s n (stmt_in xs ts ss j)) e (subst (λ (t : tree.Stmt). StmtKeeps s n t) (sym (stmt_at-is (term_at xs) (target_in xs ts) ss keep.stmts.lower m x found)) own)
+          let own = node_stmt_keeps s n xs ts (stmt_in xs ts ss) m x keep targets (stmts.there m x found) (λ j i. stmts_below_keep s n xs ts ss keep targets stmts m (omega arith) j i) (lower_at stmt_below ss stmts.lower m x found) in
+          subst (λ (j : ℕ). StmtKeeps s n (stmt_in xs ts ss j)) e (subst (λ (t : tree.Stmt). StmtKeeps s n t) (sym (stmt_at-is (term_at xs) (target_in xs ts) ss stmts.lower m x found)) own)
     ]
 
 -- the tree of the statement at a place keeps
-pub stmt_keeps : (s : Shapes) (n : ℕ) (xs : List Expr) (ts : List Target) (ss : List Stmt) (k : ℕ) → DraftKeeps s n xs ts ss → k < length ss → StmtKeeps s n (stmt_in xs ts ss k)
-stmt_keeps s n xs ts ss k keep l = stmts_below_keep s n xs ts ss keep (length ss) (omega arith) k l
+pub stmt_keeps : (s : Shapes) (n : ℕ) (xs : List Expr) (ts : List Target) (ss : List Stmt) (k : ℕ) → ExprsAreSound s n xs → TargetNodesKeep s n xs ts → StmtNodesKeep (length xs) (length ts) ss → k < length ss → StmtKeeps s n (stmt_in xs ts ss k)
+stmt_keeps s n xs ts ss k keep targets stmts l = stmts_below_keep s n xs ts ss keep targets stmts (length ss) (omega arith) k l
 
 -- ---- designs
 
@@ -127,19 +127,18 @@ stmt_there d (stmt.Assign target value line) h = h
 stmt_there d (stmt.If branches rest line) h = h
 stmt_there d (stmt.Case on arms rest line) h = h
 
--- a design's arenas keep what drafts keep
-pub design_draft : (d : Design) → Keeps d → DraftKeeps (shapes d) (length d.signals) d.exprs d.targets d.stmts
-design_draft d keep = record {
-  exprs = design_keeps d keep;
-  targets = record { lower = keep.targets_lower; there = λ k x e. target_there d x (keep.targets k x e); bits = keep.target_bits };
-  stmts = record { lower = keep.stmts_lower; there = λ k x e. stmt_there d x (keep.stmts k x e) };
-}
+-- a design's arenas keep what drafts keep, but for expressions that pick an item
+pub design_targets : (d : Design) → Keeps d → TargetNodesKeep (shapes d) (length d.signals) d.exprs d.targets
+design_targets d keep = record { lower = keep.targets_lower; there = λ k x e. target_there d x (keep.targets k x e); bits = keep.target_bits }
+
+pub design_stmts : (d : Design) → Keeps d → StmtNodesKeep (length d.exprs) (length d.targets) d.stmts
+design_stmts d keep = record { lower = keep.stmts_lower; there = λ k x e. stmt_there d x (keep.stmts k x e) }
 
 -- the tree of a list of a design's statements keeps
 pub design_block : (d : Design) (ids : List StmtId) → Keeps d → all_stmts_below (length d.stmts) ids ≡ true → BlockKeeps (shapes d) (length d.signals) (design.block d ids)
 design_block d ids keep b =
-    let own = design_draft d keep in
-    block_keeps (shapes d) (length d.signals) (design.stmt d) (length d.stmts) ids (λ j l. stmt_keeps (shapes d) (length d.signals) d.exprs d.targets d.stmts j own l) b
+    let each = λ (j : ℕ) (l : j < length d.stmts). stmt_keeps (shapes d) (length d.signals) d.exprs d.targets d.stmts j (design_sound d keep) (design_targets d keep) (design_stmts d keep) l in
+    block_keeps (shapes d) (length d.signals) (design.stmt d) (length d.stmts) ids each b
 
 below_both : (n : ℕ) (a b : List StmtId) → all_stmts_below n a ≡ true → all_stmts_below n b ≡ true → all_stmts_below n (a ++ b) ≡ true
 below_both n [] b p q = q

@@ -114,8 +114,8 @@ chosen_next ss a b c lists numbers out more list number k l for_signals are p e 
     let g = folded_lists ss a lists in
     let same = ap (λ (is : List StmtId). block_of b is) e ∙ block_kept (list_at lists k) p.grows (for_signals.there k l) in
     let own = ap (chosen ss k number) same
-        ∙ ap (λ (o : Option ℤ). chosen ss k o (block_of a (list_at lists k))) (sym (get_or_from_slice_get numbers k number None f))
-        ∙ are.each k l in
+    ∙ ap (λ (o : Option ℤ). chosen ss k o (block_of a (list_at lists k))) (sym (get_or_from_slice_get numbers k number None f))
+    ∙ are.each k l in
     some_more (some_is (made_next ss g k l) p) (put_is own q)
 
 pub list_there : (ss : List Signal) (a b : Draft) (lists : List (List StmtId)) (list : List StmtId) (k : ℕ) → k < length ss → AreForSignals a (length ss) lists → Grows ss a b → list ≡ list_at lists k → AreThere b list

@@ -1,5 +1,5 @@
 -- The node of a design at a place: its tree, and what stands there.
-use Rattle.std.proofs.Common.{◌≡◌, ℕ, zero, suc, ◌<◌, ◌≤◌, true, List, [], ◌∷◌, length, get_or, refl, sym, ap, subst, ◌∙◌, arith, nat_lt}
+use Rattle.std.proofs.Common.{◌≡◌, ℕ, zero, suc, ◌<◌, ◌≤◌, List, [], ◌∷◌, length, get_or, sym, ap, subst, ◌∙◌, arith, nat_lt}
 use Rattle.std.specs.Prelude.{Some, map, slice_get, slice_index_or, IsTrue}
 use Rattle.std.proofs.lemmas.Bool.{and_parts, ltb-true}
 use Rattle.lx_circuit.specs.Circuit.{nothing}
@@ -8,7 +8,7 @@ use Rattle.lx_fhdl.specs.Below.{ExprId, TargetId, StmtId, all_targets_below, tar
 use Rattle.lx_fhdl.specs.Designs as design
 use Rattle.lx_fhdl.specs.Designs.{made_of, circuit_of, shapes}
 use Rattle.lx_fhdl.specs.Keeping.{TargetStands, StmtStands, Keeps}
-use Rattle.lx_fhdl.specs.Stmts.{targets_at, node_target, node_stmt}
+use Rattle.lx_fhdl.specs.Stmts.{node_target, node_stmt}
 use Rattle.lx_fhdl.specs.declared.design.Design.{Design}
 use Rattle.lx_fhdl.specs.declared.design.Signal.{Signal}
 use Rattle.lx_fhdl.specs.declared.stmts.Target.{Target}

@@ -1,5 +1,5 @@
 -- Statements that are put one after the other.
-use Rattle.std.proofs.Common.{◌≡◌, ℕ, ◌<◌, ◌≤◌, Bool, true, false, ◌&&◌, List, [], ◌∷◌, ◌++◌, length, refl, sym, ap, subst, ◌∙◌, arith, nat_lt}
+use Rattle.std.proofs.Common.{◌≡◌, ℕ, ◌<◌, ◌≤◌, Bool, true, false, List, [], ◌∷◌, ◌++◌, length, refl, sym, ap, subst, ◌∙◌, arith, nat_lt}
 use Rattle.std.specs.Prelude.{Result, Ok, Err, IfOk, OnOk, IsTrue, ◌↔◌}
 use Rattle.std.proofs.lemmas.Bool.{and_parts, ltb-true, lt-ltb}
 use Rattle.lx_circuit.specs.Terms.{Term}
@@ -13,8 +13,8 @@ use Rattle.lx_fhdl.specs.declared.exprs.Expr.{Expr}
 use Rattle.lx_fhdl.specs.declared.stmts.Target.{Target}
 use Rattle.lx_fhdl.specs.declared.stmts.Stmt.{Stmt}
 use Rattle.lx_fhdl.proofs.StmtTrees.{block_same}
-use Rattle.lx_lowering.specs.Flat.{append, one, when, some_when}
-use Rattle.lx_lower.specs.Drafts.{ExprsKeep, TermsStay, TargetsStay, TargetPut, TargetNodesKeep, StmtPut, StmtNodesKeep, DraftKeeps, shapes_in, target_in, stmt_in}
+use Rattle.lx_lowering.specs.Flat.{append, one, when, some_when, first_branch}
+use Rattle.lx_lower.specs.Drafts.{ExprsKeep, TermsStay, TermPut, TargetsStay, TargetNodesKeep, StmtPut, StmtNodesKeep, shapes_in, target_in, stmt_in}
 use Rattle.lx_lower.specs.Puts.{term_of, block_of, IsDraft, AreThere, Grows, Put, PutSome}
 use Rattle.lx_lower.specs.declared.blocks.Draft.{Draft}
 use Rattle.lx_lower.proofs.Staying.{draft_same, draft_then, draft_exprs, keeps_exprs, draft_targets, keeps_targets, draft_stmts, keeps_stmts}
@@ -84,6 +84,10 @@ grows_targets ss x us keep g new = record {
   stays = draft_targets (shapes_in ss) (length ss) x.exprs x.targets us x.stmts keep g;
 }
 
+-- by an expression
+pub grows_put : (ss : List Signal) (x : Draft) (ys : List Expr) (id : ℕ) (t : Term) → IsDraft ss x → TermPut x.exprs ys id t → ExprsKeep (shapes_in ss) (length ss) ys → Grows ss x (record { exprs = ys; targets = x.targets; stmts = x.stmts })
+grows_put ss x ys id t keep p new = grows_exprs ss x ys keep p.terms new
+
 -- ---- statements that are put
 
 pub put_is : {ss : List Signal} {x y : Draft} {a b : List StmtId} {s t : Block} → s ≡ t → Put ss x y a b s → Put ss x y a b t
@@ -123,6 +127,10 @@ put_one ss x rs a i t keep there put new =
           ∙ ap (λ (w : Block). append w (one (stmt_in x.exprs x.targets rs i.place))) (block_kept a grows there)
           ∙ ap (λ (w : tree.Stmt). append (block_of x a) (one w)) put.tree;
     }
+
+-- statements that are put under a condition
+pub under_put : (c : ℕ) {ss : List Signal} {x y z w : Draft} {own a b : List StmtId} {so : Block} {t : Term} → Put ss x y [] own so → Grows ss y z → term_of z c ≡ t → Put ss z w a b (when (term_of z c) (block_of z own)) → Put ss z w a b (when t so)
+under_put c {z = z} {own = own} {t = t} p g e q = put_is (ap (λ (u : Term). when u (block_of z own)) e ∙ ap (when t) (block_kept own g p.there ∙ p.block)) q
 
 -- ---- some of the statements that are to be put
 
@@ -166,3 +174,11 @@ when_none c x so e = ap (λ (is : List StmtId). some_when c (block_of x is)) (sy
 pub when_some : (c : Term) (x : Draft) (so : List StmtId) → (so ≡ [] → ⊥) → when c (block_of x so) ≡ some_when c (block_of x so)
 when_some c x [] h = absurd (h refl)
 when_some c x (i ∷ is) h = refl
+
+pub branch_none : (c : Term) (x : Draft) (so other : List StmtId) → so ≡ [] → other ≡ [] → Done ≡ first_branch c (block_of x so) tree.NoBranch Done (block_of x other)
+branch_none c x so other e f = sym (ap (λ (is : List StmtId). first_branch c (block_of x is) tree.NoBranch Done (block_of x other)) e ∙ ap (λ (is : List StmtId). first_branch c Done tree.NoBranch Done (block_of x is)) f)
+
+pub branch_some : (c : Term) (x : Draft) (so other : List StmtId) → (so ≡ [] → other ≡ [] → ⊥) → one (tree.If (tree.Branch c (block_of x so) tree.NoBranch) (block_of x other)) ≡ first_branch c (block_of x so) tree.NoBranch Done (block_of x other)
+branch_some c x [] [] h = absurd (h refl refl)
+branch_some c x [] (i ∷ is) h = refl
+branch_some c x (i ∷ is) other h = refl

@@ -1,7 +1,9 @@
 pub mod Drafts
 pub mod Exprs
 pub mod Fixed
+pub mod Keys
 pub mod Lists
 pub mod Over
 pub mod Puts
+pub mod Sources
 pub mod Tests

@@ -1,5 +1,5 @@
 -- Flat statements that are put into a draft.
-use Rattle.std.specs.Prelude.{◌≡◌, ℕ, List, length, ◌<◌, IsTrue}
+use Rattle.std.specs.Prelude.{◌≡◌, ℕ, List, length, IsTrue}
 use Rattle.lx_circuit.specs.Terms.{Term}
 use Rattle.lx_circuit.specs.Statements.{Block}
 use Rattle.lx_fhdl.specs.Below.{StmtId, all_stmts_below}

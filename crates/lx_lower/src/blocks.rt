@@ -3,7 +3,7 @@
 ghost use Rattle.std.specs.Prelude.{◌≡◌, ◌<◌, ◌≤◌, [], ◌∷◌, length, OnOk};
 ghost use Rattle.lx_circuit.specs.Statements as tree;
 ghost use Rattle.lx_fhdl.specs.Stmts.{node_stmt, node_target};
-ghost use Rattle.lx_lowering.specs.Flat.{one, some_when, when};
+ghost use Rattle.lx_lowering.specs.Flat.{first_branch, one, some_when, when};
 ghost use Rattle.lx_lower.specs.Drafts.{CanAddStmt, CanAddTarget, shapes_in, stmt_in, target_in};
 ghost use Rattle.lx_lower.specs.Puts.{AreThere, IsDraft, Put, block_of, term_of};
 
@@ -18,6 +18,17 @@ pub struct Draft {
     pub exprs: Exprs,
     pub targets: Targets,
     pub stmts: Stmts,
+}
+
+/// A draft with these expressions and no statement.
+pub fn start_draft(alloc: Global, exprs: Exprs) -> Draft
+    ensures { result ≡ record { exprs = exprs; targets = []; stmts = [] } }
+{
+    Draft {
+        exprs,
+        targets: Targets::new(alloc),
+        stmts: Stmts::new(alloc),
+    }
 }
 
 /// Adds a statement whose parts stand already.
@@ -123,4 +134,27 @@ pub fn put_some_when(
         return Ok(());
     }
     put_when(alloc, signals, draft, cond, so, out)
+}
+
+/// Adds statements under a condition, and others where it fails, where there are any.
+pub fn put_some_branch(
+    alloc: Global,
+    signals: &[Signal],
+    draft: &mut Draft,
+    cond: ExprId,
+    so: List<StmtId>,
+    other: List<StmtId>,
+    out: &mut List<StmtId>,
+) -> Result<(), NoMemory>
+    requires draft { IsDraft signals.now draft.old }
+    requires out { AreThere draft.old out.old }
+    requires cond { cond.place < length draft.old.exprs }
+    requires so { AreThere draft.old so }
+    requires other { AreThere draft.old other }
+    ensures { OnOk result (Put signals.now draft.old draft.new out.old out.new (first_branch (term_of draft.old cond.place) (block_of draft.old so) tree.NoBranch tree.Done (block_of draft.old other))) }
+{
+    if so.is_empty() && other.is_empty() {
+        return Ok(());
+    }
+    put_branch(alloc, signals, draft, cond, so, other, out)
 }

@@ -1,6 +1,6 @@
 //! Conditions and shifted numbers that lowered statements need: each is one expression over those that stand already.
 
-ghost use Rattle.std.specs.Prelude.{◌≡◌, ◌+◌, ◌<◌, ◌≤◌, ◌^◌, false, true, pos, nat_lt, length, IfOk, None};
+ghost use Rattle.std.specs.Prelude.{◌≡◌, ◌<◌, ◌^◌, false, true, nat_lt, length, IfOk, None};
 ghost use Rattle.lx_num.specs.Ints.{shape, unsigned};
 ghost use Rattle.lx_circuit.specs.Operands.{is_binary};
 ghost use Rattle.lx_circuit.specs.Shapes.{binary_fault, shape_of};

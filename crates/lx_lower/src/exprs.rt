@@ -1,16 +1,15 @@
 //! The expressions of a design, lowered: each choice by an index becomes a chain of choices by a condition, and
 //! no expression is shifted right by more than its bits.
 
-ghost use Rattle.std.specs.Prelude.{◌≡◌, ◌<◌, ◌≤◌, pos, false, true, length, map, IfOk, IsTrue, MatchOption, None};
+ghost use Rattle.std.specs.Prelude.{◌≡◌, ◌<◌, pos, false, true, length, map, IfOk, IsTrue, MatchOption, None};
 ghost use Rattle.lx_circuit.specs.Operands.{is_binary};
 ghost use Rattle.lx_circuit.specs.Shapes.{fault_of, joined, pick_fault, shape_of, shapes_of, too_wide};
 ghost use Rattle.lx_circuit.specs.Terms.{Binary, Constant, Mux, Pick};
 ghost use Rattle.lx_circuit.specs.Values.{count_of};
 ghost use Rattle.lx_fhdl.specs.Below.{all_below, expr_below};
-ghost use Rattle.lx_fhdl.specs.Keeping.{Keeps, TakesOperands};
-ghost use Rattle.lx_fhdl.specs.Nodes.{IsSmall, shape_at};
+ghost use Rattle.lx_fhdl.specs.Keeping.{Keeps};
+ghost use Rattle.lx_fhdl.specs.Nodes.{IsSmall};
 ghost use Rattle.lx_fhdl.specs.Trees.{node_term, term_at, terms_at};
-ghost use Rattle.lx_lowering.specs.Lowering.{TermKeeps};
 ghost use Rattle.lx_lowering.specs.Terms.{cut_amount, is_item, lower_term, pick_from};
 ghost use Rattle.lx_lower.specs.Drafts.{ExprIsSound, ExprsAreSound, ExprsKeep, TermPut, shapes_in};
 ghost use Rattle.lx_lower.specs.Exprs.{AreMoved, AreShapes, ExprsAreLowered, moved_node, moved_to};

@@ -1,4 +1,4 @@
-use Rattle.std.proofs.Common.{◌<◌, ◌≤◌, length, sym, ap, ◌∙◌, arith}
+use Rattle.std.proofs.Common.{◌<◌, length, sym, ap, ◌∙◌, arith}
 use Rattle.lx_fhdl.specs.Below.{TargetId}
 use Rattle.lx_num.specs.declared.Shape.{Shape}
 use Rattle.lx_lower.proofs.Nodes.{signal_shape, target_stands, target_bits_are, node_bits_most, parts_lower, items_lower, target_below_at}
