@@ -5,6 +5,7 @@ pub mod assigns;
 pub mod bits;
 pub mod blocks;
 pub mod conds;
+pub mod copies;
 pub mod drafts;
 pub mod exprs;
 pub mod fixed;
