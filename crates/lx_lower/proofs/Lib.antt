@@ -1,6 +1,7 @@
 pub mod Arms
 pub mod Choices
 pub mod Conditions
+pub mod Domains
 pub mod Flats
 pub mod Folding
 pub mod Freedom

@@ -35,14 +35,14 @@ lists_none ss flat a lists f draft over e = record {
   blocks = record { long = ap length e; there = λ k l. absurd (omega arith); blocks = λ k l. absurd (omega arith) };
 }
 
-lists_kept : {ss : List Signal} {x y : Draft} {n : ℕ} {lists : List (List StmtId)} {f : ℕ → Block} → Grows ss x y → AreLists x n lists f → AreLists y n lists f
+pub lists_kept : {ss : List Signal} {x y : Draft} {n : ℕ} {lists : List (List StmtId)} {f : ℕ → Block} → Grows ss x y → AreLists x n lists f → AreLists y n lists f
 lists_kept {lists = lists} g h = record {
   long = h.long;
   there = λ k l. there_kept (list_at lists k) g (h.there k l);
   blocks = λ k l. block_kept (list_at lists k) g (h.there k l) ∙ h.blocks k l;
 }
 
-list_more : (x : Draft) (n : ℕ) (lists : List (List StmtId)) (list : List StmtId) (f : ℕ → Block) → AreLists x n lists f → AreThere x list → block_of x list ≡ f n → AreLists x (n + 1) (lists ++ list ∷ []) f
+pub list_more : (x : Draft) (n : ℕ) (lists : List (List StmtId)) (list : List StmtId) (f : ℕ → Block) → AreLists x n lists f → AreThere x list → block_of x list ≡ f n → AreLists x (n + 1) (lists ++ list ∷ []) f
 list_more x n lists list f h there e =
     let front = λ (k : ℕ) (l : k < n). get_or_append_left lists (list ∷ []) [] k (omega (arith, h.long)) in
     let last = λ (k : ℕ) (l : n ≡ k). get_or_push lists list [] k (h.long ∙ l) in
@@ -72,7 +72,7 @@ split_more ss flat a b c n lists list ids over h p = record {
 
 -- ---- lists that are put one after the other, or constants in their place
 
-below_both : (n : ℕ) (a b : List StmtId) → all_stmts_below n a ≡ true → all_stmts_below n b ≡ true → all_stmts_below n (a ++ b) ≡ true
+pub below_both : (n : ℕ) (a b : List StmtId) → all_stmts_below n a ≡ true → all_stmts_below n b ≡ true → all_stmts_below n (a ++ b) ≡ true
 below_both n [] b p q = q
 below_both n (i ∷ is) b p q =
     let r = and_parts (nat_lt i.place n) (all_stmts_below n is) p in

@@ -4,6 +4,7 @@ pub mod Fixed
 pub mod Keys
 pub mod Lists
 pub mod Over
+pub mod Parts
 pub mod Puts
 pub mod Sources
 pub mod Tests

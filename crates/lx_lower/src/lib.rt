@@ -13,6 +13,7 @@ pub mod flat;
 pub mod fold;
 pub mod keys;
 pub mod lists;
+pub mod parts;
 pub mod shapes;
 pub mod source;
 pub mod split;

@@ -42,7 +42,7 @@ pub fn split_all(
 }
 
 /// Adds statements at the end of a list.
-fn add_all(out: &mut List<StmtId>, ids: &[StmtId]) -> Result<(), NoMemory>
+pub fn add_all(out: &mut List<StmtId>, ids: &[StmtId]) -> Result<(), NoMemory>
     ensures { OnOk result (out.new ≡ out.old ++ ids.now) }
 {
     for id in ids {
