@@ -1,4 +1,5 @@
 pub mod Arms
+pub mod BySignal
 pub mod Choices
 pub mod Conditions
 pub mod Domains
@@ -10,6 +11,7 @@ pub mod Growing
 pub mod Items
 pub mod Kept
 pub mod Listing
+pub mod Lowerings
 pub mod Moved
 pub mod NodeTrees
 pub mod Nodes

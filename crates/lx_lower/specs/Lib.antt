@@ -3,6 +3,7 @@ pub mod Exprs
 pub mod Fixed
 pub mod Keys
 pub mod Lists
+pub mod Lowers
 pub mod Over
 pub mod Parts
 pub mod Puts

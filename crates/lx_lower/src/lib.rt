@@ -18,6 +18,7 @@ pub mod shapes;
 pub mod source;
 pub mod split;
 pub mod trees;
+pub mod whole;
 
 pub use assigns::put_assigns;
 pub use bits::target_bits;
@@ -28,3 +29,4 @@ pub use flat::{flatten, put_flat, put_flat_block};
 pub use shapes::expr_shapes;
 pub use source::{Operand, Source, lowered};
 pub use split::split_list;
+pub use whole::lower;
