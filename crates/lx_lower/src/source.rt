@@ -11,6 +11,7 @@ use lx_fhdl::{Design, ExprId};
 use lx_num::Shape;
 
 /// A design whose expressions are lowered already.
+#[derive(Drop)]
 pub struct Source<'a> {
     pub design: &'a Design,
     /// The new place of each expression.
