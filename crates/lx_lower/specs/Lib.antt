@@ -1,0 +1,11 @@
+pub mod Drafts
+pub mod Exprs
+pub mod Fixed
+pub mod Keys
+pub mod Lists
+pub mod Lowers
+pub mod Over
+pub mod Parts
+pub mod Puts
+pub mod Sources
+pub mod Tests
