@@ -209,17 +209,15 @@ is_lowered d w keep h = record {
 }
 
 made_is : (d : Design) (w : BySignals) → Keeps d → AreBySignals d w → IsLoweringOf d (made d w)
-made_is d w keep h =
-    let law = lowers d w keep h in
-    record {
-      keeps = keeps_made d w keep h;
-      lowered = is_lowered d w keep h;
-      signals = refl;
-      domains = refl;
-      ios = refl;
-      runs = law.runs;
-      order = law.order;
-    }
+made_is d w keep h = record {
+  keeps = keeps_made d w keep h;
+  lowered = is_lowered d w keep h;
+  signals = refl;
+  domains = refl;
+  ios = refl;
+  circuit = circuit_is d w h;
+  lowers = lowers d w keep h;
+}
 
 -- the design of the lists, with copies of the signals, domains and ports
 pub is_lowering : (d : Design) (w : BySignals) (ss : List Signal) (ds : List Domain) (ports : List SigId) → Keeps d → AreBySignals d w → ss ≡ d.signals → ds ≡ d.domains → ports ≡ d.ios

@@ -7,24 +7,18 @@ use Rattle.lx_circuit.specs.Reads.{HasOrder}
 use Rattle.lx_vtext.specs.Tree.{Name, VModule}
 use Rattle.lx_agree.specs.Agreement.{Naming, Agrees, HasPorts}
 use Rattle.lx_fhdl.specs.Designs.{circuit_of}
-use Rattle.lx_fhdl.specs.Keeping.{Keeps}
-use Rattle.lx_fhdl.specs.Lowered.{IsLowered}
 use Rattle.lx_fhdl.specs.declared.design.Domain.{Domain}
 use Rattle.lx_fhdl.specs.declared.design.Design.{Design}
 use Rattle.lx_lowering.specs.Lowering.{Lowers, lowered, lowered_domain}
+use Rattle.lx_lower.specs.Lowers.{IsLoweringOf}
 use Rattle.lx_emission.specs.Naming.{net, clock_of, clock, naming, is_among, NamesFit}
 use Rattle.lx_emission.specs.Emits.{are_once, none_is_reset, PortsFit, CanBeEmitted, Emits}
 use Rattle.lx_write.specs.Writes.{CanBeWritten, Writes}
 use Rattle.lx_write.proofs.Over.{agrees_over, ports_over}
 
--- e is d lowered
-pub record IsTheLowered (d e : Design) : Type 0 where
-  pub keeps : Keeps e
-  pub plain : IsLowered e
-  pub signals : e.signals ≡ d.signals
-  pub domains : e.domains ≡ d.domains
-  pub circuit : circuit_of e ≡ lowered (circuit_of d)
-  pub lowers : Lowers (circuit_of d) (lowered (circuit_of d))
+-- the lowered circuit has the runs of the circuit
+lowers : (d e : Design) → IsLoweringOf d e → Lowers (circuit_of d) (lowered (circuit_of d))
+lowers d e low = subst (Lowers (circuit_of d)) low.circuit low.lowers
 
 resets_same : (c : Circuit) (x : ℕ) (ds : List circuit.Domain) → circuit.is_some_reset x (map (lowered_domain c) ds) ≡ circuit.is_some_reset x ds
 resets_same c x [] = refl
@@ -42,13 +36,13 @@ lowered_once : (c : Circuit) → IsTrue (are_once c.ios) → IsTrue (are_once (l
 unfolding lowered
 lowered_once c h = h
 
-ports_fit : (d e : Design) → IsTheLowered d e → PortsFit d → PortsFit e
+ports_fit : (d e : Design) → IsLoweringOf d e → PortsFit d → PortsFit e
 ports_fit d e low fit = record {
   once = subst (λ c. IsTrue (are_once c.ios)) (sym low.circuit) (lowered_once (circuit_of d) fit.once);
   resets = subst (λ c. IsTrue (none_is_reset c.ios c.domains)) (sym low.circuit) (lowered_ports (circuit_of d) fit.resets);
 }
 
-names_fit : (d e : Design) (names : List Name) → IsTheLowered d e → NamesFit d names → NamesFit e names
+names_fit : (d e : Design) (names : List Name) → IsLoweringOf d e → NamesFit d names → NamesFit e names
 names_fit d e names low fit = record {
   long = fit.long ∙ sym (ap length low.signals);
   lawful = fit.lawful;
@@ -57,22 +51,22 @@ names_fit d e names low fit = record {
   nodes = fit.nodes;
 }
 
-pub can_be_emitted : (d e : Design) (names : List Name) → IsTheLowered d e → CanBeWritten d names → CanBeEmitted e names
+pub can_be_emitted : (d e : Design) (names : List Name) → IsLoweringOf d e → CanBeWritten d names → CanBeEmitted e names
 can_be_emitted d e names low can = record {
   keeps = low.keeps;
-  lowered = low.plain;
-  order = subst HasOrder (sym low.circuit) (low.lowers.order can.order);
+  lowered = low.lowered;
+  order = subst HasOrder (sym low.circuit) ((lowers d e low).order can.order);
   named = names_fit d e names low can.named;
   ports = ports_fit d e low can.ports;
 }
 
-naming_same : (d e : Design) (names : List Name) → IsTheLowered d e → naming e names ≡ naming d names
+naming_same : (d e : Design) (names : List Name) → IsLoweringOf d e → naming e names ≡ naming d names
 naming_same d e names low = ap (λ (ds : List Domain). the_naming names ds) low.domains
   where
     the_naming : List Name → List Domain → Naming
     the_naming ns ds = record { net = λ x. net ns x; clock = λ k. clock_of (slice_get ds k) }
 
-pub writes : (d e : Design) (names : List Name) (m : VModule) → IsTheLowered d e → CanBeWritten d names → Emits e names m → Writes d names m
+pub writes : (d e : Design) (names : List Name) (m : VModule) → IsLoweringOf d e → CanBeWritten d names → Emits e names m → Writes d names m
 writes d e names m low can emits =
     let c = circuit_of d in
     let ports : HasPorts (lowered c) (naming d names) m = subst (λ k. HasPorts k (naming d names) m) low.circuit (subst (λ (n : Naming). HasPorts (circuit_of e) n m) (naming_same d e names low) emits.ports) in
@@ -80,6 +74,6 @@ writes d e names m low can emits =
     record {
       lawful = emits.lawful;
       meaning = emits.meaning;
-      ports = ports_over c m (naming d names) low.lowers ports;
-      agrees = agrees_over c m (naming d names) low.lowers can.order agrees;
+      ports = ports_over c m (naming d names) (lowers d e low) ports;
+      agrees = agrees_over c m (naming d names) (lowers d e low) can.order agrees;
     }
