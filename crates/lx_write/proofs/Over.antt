@@ -1,13 +1,13 @@
 -- A module that agrees with the lowered circuit agrees with the circuit, and has its ports.
-use Rattle.std.proofs.Common.{◌≡◌, ℕ, ◌+◌, ◌<◌, Bool, List, [], ◌∷◌, ◌++◌, map, length, Option, Some, None, refl, sym, ap, subst, ◌∙◌, arith}
+use Rattle.std.proofs.Common.{◌≡◌, ℕ, ◌+◌, ◌<◌, List, [], ◌∷◌, map, length, Option, Some, None, refl, sym, ap, ◌∙◌, arith}
 use Rattle.std.proofs.lemmas.List.{length-map}
 use Rattle.lx_circuit.specs.Values.{Values}
 use Rattle.lx_circuit.specs.Circuit.{Circuit, Domain, Step, Role, Input, role, shapes, InputsFit, StepsFit}
 use Rattle.lx_circuit.specs.Reads.{HasOrder}
 use Rattle.lx_circuit.proofs.Views.{viewed_once}
-use Rattle.lx_vtext.specs.Tree.{Name, VPort, VModule}
+use Rattle.lx_vtext.specs.Tree.{Name, VModule}
 use Rattle.lx_vmeaning.specs.Runs.{VStep}
-use Rattle.lx_agree.specs.Agreement.{Naming, pattern, SameInputs, SameStep, SameSteps, SameRun, Agrees, HasPorts, PortOf, is_input_role, signal_port, reset_port, domain_ports, ports_of}
+use Rattle.lx_agree.specs.Agreement.{Naming, SameInputs, SameSteps, SameRun, Agrees, HasPorts, PortOf, is_input_role, signal_port, reset_port, domain_ports, ports_of}
 use Rattle.lx_lowering.specs.Lowering.{Lowers, lowered, lowered_domain}
 
 -- the inputs of the one are those of the other

@@ -1,5 +1,5 @@
 -- A lowered design can be emitted where the design can be written, and its module is the design's.
-use Rattle.std.proofs.Common.{◌≡◌, ℕ, ◌<◌, Bool, true, false, not, ◌&&◌, ◌||◌, List, [], ◌∷◌, map, length, Option, Some, None, refl, sym, ap, subst, ◌∙◌}
+use Rattle.std.proofs.Common.{◌≡◌, ℕ, ◌<◌, Bool, false, ◌||◌, List, [], ◌∷◌, map, length, refl, sym, ap, subst, ◌∙◌}
 use Rattle.std.specs.Prelude.{slice_get, IsTrue}
 use Rattle.lx_circuit.specs.Circuit as circuit
 use Rattle.lx_circuit.specs.Circuit.{Circuit}
@@ -11,7 +11,7 @@ use Rattle.lx_fhdl.specs.declared.design.Domain.{Domain}
 use Rattle.lx_fhdl.specs.declared.design.Design.{Design}
 use Rattle.lx_lowering.specs.Lowering.{Lowers, lowered, lowered_domain}
 use Rattle.lx_lower.specs.Lowers.{IsLoweringOf}
-use Rattle.lx_emission.specs.Naming.{net, clock_of, clock, naming, is_among, NamesFit}
+use Rattle.lx_emission.specs.Naming.{net, clock_of, naming, is_among, NamesFit}
 use Rattle.lx_emission.specs.Emits.{are_once, none_is_reset, PortsFit, CanBeEmitted, Emits}
 use Rattle.lx_write.specs.Writes.{CanBeWritten, Writes}
 use Rattle.lx_write.proofs.Over.{agrees_over, ports_over}
