@@ -6,6 +6,7 @@ ghost use Rattle.lx_emission.specs.Emits.{CanBeEmitted};
 ghost use Rattle.lx_emission.specs.Emission.{emitted};
 ghost use Rattle.lx_vtext.specs.Printed.{module_text};
 ghost use Rattle.lx_emission.specs.Instance as designs;
+ghost use Rattle.lx_write.specs.Writes.{CanBeWritten};
 
 use lx_arena::{Arena, Id};
 use lx_emission::{swap_law, swap_text_law, toggle_law, toggle_text_law};
@@ -18,6 +19,7 @@ use lx_num::Shape;
 use lx_tables::Op;
 use lx_text::{List, NoMemory, Text, Word};
 use lx_vprint::print;
+use lx_write::write_module;
 use std::alloc::Global;
 use std::marker::PhantomData;
 use std::test::Fail;
@@ -306,11 +308,45 @@ fn swap_text(alloc: Global) -> Result<Text, NoMemory>
     written(alloc, &design, &names)
 }
 
+// The text of the module of a design, by way of its lowered design.
+fn written_whole(alloc: Global, design: &Design, names: &List<Word>) -> Result<Text, NoMemory>
+    requires { CanBeWritten design.now names.now }
+{
+    let module = write_module(alloc, design, names)?;
+    print(alloc, &module)
+}
+
+#[tactic(auto, using(lx_write::proofs::Written::written_from_emitted))]
+fn toggle_whole(alloc: Global) -> Result<Text, NoMemory> {
+    toggle_law();
+    let design = toggle(alloc)?;
+    let names = toggle_names(alloc)?;
+    written_whole(alloc, &design, &names)
+}
+
+#[tactic(auto, using(lx_write::proofs::Written::written_from_emitted))]
+fn swap_whole(alloc: Global) -> Result<Text, NoMemory> {
+    swap_law();
+    let design = swap(alloc)?;
+    let names = swap_names(alloc)?;
+    written_whole(alloc, &design, &names)
+}
+
 #[test]
 fn designs_are_written(rt: HostRuntime) -> Result<(), Fail> {
     let toggled = toggle_text(rt.alloc())?;
     assert_eq!(rt; toggled.as_bytes(), TOGGLE);
     let swapped = swap_text(rt.alloc())?;
+    assert_eq!(rt; swapped.as_bytes(), SWAP);
+    Ok(())
+}
+
+// they are lowered already, so that lowering changes no byte
+#[test]
+fn lowered_designs_are_written(rt: HostRuntime) -> Result<(), Fail> {
+    let toggled = toggle_whole(rt.alloc())?;
+    assert_eq!(rt; toggled.as_bytes(), TOGGLE);
+    let swapped = swap_whole(rt.alloc())?;
     assert_eq!(rt; swapped.as_bytes(), SWAP);
     Ok(())
 }

@@ -77,3 +77,7 @@ writes d e names m low can emits =
       ports = ports_over c m (naming d names) (lowers d e low) ports;
       agrees = agrees_over c m (naming d names) (lowers d e low) can.order agrees;
     }
+
+-- a lowered design that can be emitted can be written too
+pub written_from_emitted : (d : Design) (names : List Name) → CanBeEmitted d names → CanBeWritten d names
+written_from_emitted d names can = record { keeps = can.keeps; order = can.order; named = can.named; ports = can.ports }
