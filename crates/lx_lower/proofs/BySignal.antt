@@ -1,6 +1,5 @@
 -- A design's flat statements by signals.
-use Rattle.std.proofs.Common.{◌≡◌, ℕ, ◌<◌, ◌≤◌, true, List, [], ◌∷◌, length, refl, sym, ap, ◌∙◌, subst, arith}
-use Rattle.std.specs.Prelude.{IsTrue}
+use Rattle.std.proofs.Common.{◌≡◌, ℕ, ◌<◌, ◌≤◌, true, List, [], length, sym, ap, ◌∙◌, subst, arith}
 use Rattle.lx_circuit.specs.Shapes.{Shapes}
 use Rattle.lx_circuit.specs.Statements.{Block}
 use Rattle.lx_fhdl.specs.Below.{StmtId, all_stmts_below}
@@ -22,7 +21,7 @@ use Rattle.lx_lower.specs.Fixed.{AreNarrow}
 use Rattle.lx_lower.specs.Lists.{list_at}
 use Rattle.lx_lower.specs.Lowers.{AreBySignals}
 use Rattle.lx_lower.specs.Over.{AreOver, PutOver, block_over}
-use Rattle.lx_lower.specs.Parts.{flat_comb, flat_sync, AreFlats, AreAlone, folded_split, split_lists, split_domains, AreParts, PartsPut}
+use Rattle.lx_lower.specs.Parts.{flat_comb, AreFlats, AreAlone, folded_split, split_lists, split_domains, PartsPut}
 use Rattle.lx_lower.specs.Puts.{block_of}
 use Rattle.lx_lower.specs.declared.blocks.Draft.{Draft}
 use Rattle.lx_lower.specs.declared.parts.Flats.{Flats}

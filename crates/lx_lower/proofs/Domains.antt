@@ -1,9 +1,9 @@
 -- Statements of domains, flat and then by signals.
-use Rattle.std.proofs.Common.{◌≡◌, ℕ, zero, suc, ◌+◌, ◌<◌, ◌≤◌, Bool, true, ◌&&◌, nat_lt, List, [], ◌∷◌, ◌++◌, length, get_or, map, refl, sym, ap, ◌∙◌, subst, arith, rules, inl, inr}
+use Rattle.std.proofs.Common.{◌≡◌, ℕ, suc, ◌+◌, ◌<◌, true, List, [], ◌∷◌, ◌++◌, length, map, refl, sym, ap, ◌∙◌, subst, arith, rules, inl, inr}
 use Rattle.std.specs.Prelude.{IsTrue}
 use Rattle.std.specs.List.{flat_map}
 use Rattle.std.proofs.lemmas.Bool.{cases_lt}
-use Rattle.std.proofs.lemmas.List.{get_or_append_left, get_or_push, get_or_default, length_push, length-map}
+use Rattle.std.proofs.lemmas.List.{get_or_append_left, get_or_push, length_push, length-map}
 use Rattle.lx_circuit.specs.Circuit.{Made}
 use Rattle.lx_circuit.specs.Statements.{Block}
 use Rattle.lx_fhdl.specs.Below.{StmtId, all_stmts_below}
@@ -20,12 +20,11 @@ use Rattle.lx_lowering.specs.Lowering.{lists_from}
 use Rattle.lx_lowering.specs.Split.{split_block}
 use Rattle.lx_lower.specs.Drafts.{shapes_in}
 use Rattle.lx_lower.specs.Fixed.{folded_in}
-use Rattle.lx_lower.specs.Lists.{list_at, AreLists, AreForSignals, ListsPut, all_lists, folded_lists}
+use Rattle.lx_lower.specs.Lists.{list_at, AreForSignals, ListsPut, all_lists, folded_lists}
 use Rattle.lx_lower.specs.Over.{AreOver, PutOver, block_over}
-use Rattle.lx_lower.specs.Parts.{flat_sync, AreFlats, DomainsPut, AreAlone, AreListsIn, split_lists, folded_split, part_at, AreParts, PartsPut, split_domains}
-use Rattle.lx_lower.specs.Puts.{IsDraft, AreThere, Grows, Put, block_of}
+use Rattle.lx_lower.specs.Parts.{flat_sync, AreFlats, DomainsPut, AreAlone, split_lists, folded_split, part_at, PartsPut, split_domains}
+use Rattle.lx_lower.specs.Puts.{IsDraft, AreThere, Put, block_of}
 use Rattle.lx_lower.specs.declared.blocks.Draft.{Draft}
-use Rattle.lx_lower.specs.declared.parts.Flats.{Flats}
 use Rattle.lx_lower.proofs.FromKeeps.{sync_below}
 use Rattle.lx_lower.proofs.Listing.{below_both, list_more, lists_kept}
 use Rattle.lx_lower.proofs.Puts.{grows_same, grows_then, there_kept, block_kept, block_append, put_is, put_after}

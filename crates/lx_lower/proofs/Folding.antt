@@ -1,5 +1,5 @@
 -- The signals and targets of statements that are folded.
-use Rattle.std.proofs.Common.{◌≡◌, ℕ, zero, suc, ◌+◌, ◌*◌, ◌/◌, ◌%◌, ◌^◌, ◌<◌, ◌≤◌, Bool, true, false, List, [], ◌∷◌, length, drop, get_or, add-one, drop-cons, to_z, of_z, refl, sym, ap, ◌∙◌, subst, arith}
+use Rattle.std.proofs.Common.{◌≡◌, ℕ, zero, suc, ◌+◌, ◌*◌, ◌^◌, ◌<◌, ◌≤◌, Bool, true, false, List, [], ◌∷◌, length, drop, get_or, add-one, drop-cons, to_z, of_z, refl, sym, ap, ◌∙◌, subst, arith}
 use Rattle.std.specs.Prelude.{ℤ, pos, FitsSigned, ◌==◌, Some, map, slice_get, slice_index_or}
 use Rattle.std.proofs.Math.Nat.{zero-mod, zero-div}
 use Rattle.std.specs.Int.{w128}
@@ -26,7 +26,7 @@ use Rattle.lx_fhdl.specs.declared.stmts.Target.{Target}
 use Rattle.lx_fhdl.specs.declared.stmts.Target.TheVariants as target
 use Rattle.lx_lowering.specs.Constants.{block_reads_none, zeros, constant_of, or_constant, folded}
 use Rattle.lx_lowering.specs.Flat.{one}
-use Rattle.lx_lower.specs.Drafts.{ExprsKeep, TargetIsThere, TargetNodesKeep, shapes_in}
+use Rattle.lx_lower.specs.Drafts.{TargetIsThere, TargetNodesKeep, shapes_in}
 use Rattle.lx_lower.specs.Fixed.{AreNarrow, reset_in, constant_in, folded_in}
 
 -- ---- signals

@@ -1,16 +1,12 @@
 -- The design of lists by signals is a lowering of the design.
-use Rattle.std.proofs.Common.{◌≡◌, ℕ, zero, suc, ◌+◌, ◌<◌, ◌≤◌, Bool, true, false, cond, max, nat_eq, nat_lt, List, [], ◌∷◌, ◌++◌, length, map, refl, sym, ap, ◌∙◌, subst, arith, eq-eqb, ne_eqb}
-use Rattle.std.specs.Prelude.{Some, slice_get, IsTrue, IfSome, codes}
-use Rattle.std.proofs.lemmas.List.{append-nil, length-map}
+use Rattle.std.proofs.Common.{◌≡◌, ℕ, zero, suc, ◌+◌, ◌<◌, ◌≤◌, Bool, true, false, cond, nat_eq, List, [], ◌∷◌, ◌++◌, length, map, refl, sym, ap, ◌∙◌, subst, arith, eq-eqb, ne_eqb}
+use Rattle.std.proofs.lemmas.List.{append-nil}
 use Rattle.lx_circuit.specs.Circuit as circuit
-use Rattle.lx_circuit.specs.Reads.{HasOrder}
-use Rattle.lx_circuit.specs.Shapes.{Shapes}
 use Rattle.lx_circuit.specs.Statements.{Block}
-use Rattle.lx_circuit.specs.Statements as tree
-use Rattle.lx_fhdl.specs.Below.{StmtId, all_stmts_below}
+use Rattle.lx_fhdl.specs.Below.{StmtId}
 use Rattle.lx_fhdl.specs.Designs as design
 use Rattle.lx_fhdl.specs.Designs.{circuit_of, made_of, shapes, stmts_of, domain_of, domains_from}
-use Rattle.lx_fhdl.specs.Keeping.{EachOf, IsSignal, IsDomain, TargetStands, StmtStands, ListStands, PartStands, Keeps, block_depth}
+use Rattle.lx_fhdl.specs.Keeping.{EachOf, IsDomain, TargetStands, StmtStands, PartStands, Keeps, block_depth}
 use Rattle.lx_fhdl.specs.Lowered.{ArePlain, IsLowered}
 use Rattle.lx_fhdl.specs.declared.exprs.SigId.{SigId}
 use Rattle.lx_fhdl.specs.declared.design.Design.{Design}
@@ -21,23 +17,22 @@ use Rattle.lx_fhdl.specs.declared.stmts.Target.{Target}
 use Rattle.lx_fhdl.specs.declared.stmts.Target.TheVariants as target
 use Rattle.lx_fhdl.specs.declared.stmts.Stmt.{Stmt}
 use Rattle.lx_fhdl.specs.declared.stmts.Stmt.TheVariants as stmt
-use Rattle.lx_lowering.specs.Flat.{append, flat_block}
+use Rattle.lx_lowering.specs.Flat.{flat_block}
 use Rattle.lx_lowering.specs.Lowering.{Lowers, lowered, lowered_comb, lowered_sync, lowered_domain}
 use Rattle.lx_lowering.specs.Split.{split_block}
 use Rattle.lx_lowering.proofs.FlatShape.{flat_block_depth}
 use Rattle.lx_lowering.proofs.Law.{lowering}
-use Rattle.lx_lowering.proofs.ListFacts.{EachFor, lists_plain}
+use Rattle.lx_lowering.proofs.ListFacts.{lists_plain}
 use Rattle.lx_lowering.proofs.Lowering.{sync_depth, comb_depth}
 use Rattle.lx_lowering.proofs.SplitFacts.{depth_append}
 use Rattle.lx_lower.specs.Drafts.{TargetIsThere, StmtIsThere, shapes_in}
 use Rattle.lx_lower.specs.Fixed.{reset_in}
 use Rattle.lx_lower.specs.Lowers.{AreBySignals, IsLoweringOf}
-use Rattle.lx_lower.specs.Parts.{flat_comb, flat_sync, split_lists, part_at, AreParts}
+use Rattle.lx_lower.specs.Parts.{flat_sync, split_lists, part_at}
 use Rattle.lx_lower.specs.Puts.{block_of}
 use Rattle.lx_lower.specs.declared.whole.BySignals.{BySignals}
 use Rattle.lx_lower.proofs.BySignal.{split_is_alone}
 use Rattle.lx_lower.proofs.FromKeeps.{sync_below, can_be_lowered}
-use Rattle.lx_lower.proofs.Kept.{shapes_are}
 use Rattle.lx_lower.proofs.Puts.{block_append}
 
 -- the lowered design

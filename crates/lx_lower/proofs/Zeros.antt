@@ -1,6 +1,6 @@
 -- The values of expressions where each signal is 0.
 use Rattle.std.proofs.Common.{◌≡◌, ℕ, zero, suc, ◌<◌, ◌≤◌, List, ◌++◌, length, take, drop, replicate, refl, sym, ap, ◌∙◌, subst, arith}
-use Rattle.std.specs.Prelude.{ℤ, pos, None, Some, slice_get}
+use Rattle.std.specs.Prelude.{ℤ, pos, Some, slice_get}
 use Rattle.std.proofs.lemmas.List.{length-replicate, take_at}
 use Rattle.std.proofs.lemmas.Option.{slice_get_within}
 use Rattle.std.proofs.Math.Path.{fun_ext}
@@ -9,7 +9,7 @@ use Rattle.lx_num.specs.Ints.{Fits}
 use Rattle.lx_circuit.specs.Shapes.{Shapes, shape_of, fault_of}
 use Rattle.lx_circuit.specs.Values.{Values, value_of}
 use Rattle.lx_fhdl.specs.Keeping.{NamesBelow}
-use Rattle.lx_fhdl.specs.Laws.{OfSignal, MeansTree}
+use Rattle.lx_fhdl.specs.Laws.{OfSignal}
 use Rattle.lx_fhdl.specs.Nodes.{EachChild, FitsSignal, IsShaped, IsValued, shape_at, value_at, node_shape}
 use Rattle.lx_fhdl.specs.Trees.{term_at}
 use Rattle.lx_fhdl.specs.declared.exprs.Expr.{Expr}

@@ -1,7 +1,6 @@
 -- One list of statements for each signal.
 use Rattle.std.specs.Prelude.{◌≡◌, ℕ, ℤ, true, List, [], Option, None, ◌<◌, drop, length, map, slice_index_or}
 use Rattle.lx_circuit.specs.Statements.{Block}
-use Rattle.lx_circuit.specs.Circuit.{Made}
 use Rattle.lx_fhdl.specs.Below.{StmtId}
 use Rattle.lx_fhdl.specs.Lowered.{are_for}
 use Rattle.lx_fhdl.specs.Designs.{made_of}

@@ -1,5 +1,5 @@
 -- Lowering of a design: the same signals, domains, ports and runs, and one list of plain statements for each signal.
-use Rattle.std.specs.Prelude.{◌≡◌, ℕ, List, length}
+use Rattle.std.specs.Prelude.{◌≡◌, length}
 use Rattle.lx_circuit.specs.Reads.{HasOrder}
 use Rattle.lx_fhdl.specs.Designs.{circuit_of}
 use Rattle.lx_fhdl.specs.Keeping.{Keeps}

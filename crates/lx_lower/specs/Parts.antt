@@ -1,6 +1,5 @@
 -- Statements of a design's domains, flat and then by signals.
 use Rattle.std.specs.Prelude.{◌≡◌, ℕ, true, List, [], ◌<◌, length, slice_index_or, IsTrue}
-use Rattle.lx_circuit.specs.Shapes.{Shapes}
 use Rattle.lx_circuit.specs.Statements.{Block}
 use Rattle.lx_fhdl.specs.Below.{StmtId, all_stmts_below}
 use Rattle.lx_fhdl.specs.Designs as design

@@ -1,4 +1,4 @@
-use Rattle.std.proofs.Common.{arith, ◌<◌, ◌≤◌, length}
+use Rattle.std.proofs.Common.{arith, ◌<◌, length}
 use Rattle.lx_lower.proofs.Listing.{list_is, list_there, chosen_next, made_end}
 use Rattle.lx_lower.proofs.Puts.{some_is, some_all}
 use Rattle.lx_lower.proofs.lists.put_folded.Goals as goal
