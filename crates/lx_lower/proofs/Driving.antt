@@ -1,23 +1,18 @@
 -- Statements that are added to those of the signals that they assign.
-use Rattle.std.proofs.Common.{◌≡◌, ℕ, zero, suc, ◌+◌, ◌<◌, ◌≤◌, Bool, true, false, ◌&&◌, ◌||◌, cond, nat_eq, nat_lt, List, [], ◌∷◌, ◌++◌, length, take, drop, get_or, replicate, refl, sym, ap, ◌∙◌, subst, arith, eq-eqb, ne_eqb}
-use Rattle.std.specs.Prelude.{Some, slice_get, IsTrue}
+use Rattle.std.proofs.Common.{◌≡◌, ℕ, ◌+◌, ◌<◌, ◌≤◌, Bool, true, false, ◌||◌, cond, nat_eq, nat_lt, List, [], ◌∷◌, ◌++◌, length, take, get_or, refl, sym, ap, ◌∙◌, subst, arith, eq-eqb, ne_eqb}
+use Rattle.std.specs.Prelude.{IsTrue}
 use Rattle.std.proofs.Math.Bool.{or-false, or_assoc}
 use Rattle.std.proofs.lemmas.Bool.{or_parts, cond_both, lt-ltb}
-use Rattle.std.proofs.lemmas.List.{take_more, take_all}
+use Rattle.std.proofs.lemmas.List.{take_more}
 use Rattle.lx_circuit.proofs.Cases.{and_true}
 use Rattle.lx_circuit.specs.Statements as tree
 use Rattle.lx_circuit.specs.Statements.{is_target, some_target}
 use Rattle.lx_fhdl.specs.Below.{TargetId, StmtId, all_stmts_below}
 use Rattle.lx_fhdl.specs.Stmts.{targets_at, block_at}
-use Rattle.lx_fhdl.specs.declared.exprs.Expr.{Expr}
-use Rattle.lx_fhdl.specs.declared.exprs.SigId.{SigId}
-use Rattle.lx_fhdl.specs.declared.stmts.Target.{Target}
-use Rattle.lx_fhdl.specs.declared.stmts.Target.TheVariants as target
 use Rattle.lx_fhdl.specs.declared.stmts.Stmt.{Stmt}
 use Rattle.lx_lowering.specs.Flat.{append, one}
-use Rattle.lx_lowering.specs.Split.{lone_if, split, split_if, split_block}
-use Rattle.lx_lower.specs.Drafts.{TargetNodesKeep}
-use Rattle.lx_lower.specs.Drivers.{gives, gives_first, gives_block, driven_at, mark, mark_if, AreMarked, AreDriven}
+use Rattle.lx_lowering.specs.Split.{lone_if, split, split_block}
+use Rattle.lx_lower.specs.Drivers.{gives, gives_block, driven_at, mark, mark_if, AreMarked, AreDriven}
 use Rattle.lx_lower.specs.Over.{stmt_over, block_over}
 use Rattle.lx_lower.specs.declared.blocks.Draft.{Draft}
 use Rattle.lx_lower.specs.declared.drivers.Driven.{Driven}

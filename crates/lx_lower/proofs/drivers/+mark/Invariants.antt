@@ -1,4 +1,4 @@
-use Rattle.std.proofs.Common.{◌≡◌, ◌+◌, ◌*◌, take, drop, IsTrue}
+use Rattle.std.proofs.Common.{◌+◌, ◌*◌, take, drop, IsTrue}
 use Rattle.lx_circuit.specs.Statements.{some_target}
 use Rattle.lx_fhdl.specs.Below.{all_targets_below}
 use Rattle.lx_fhdl.specs.Stmts.{target_at, targets_at}

@@ -1,4 +1,4 @@
-use Rattle.std.proofs.Common.{◌≡◌, ◌+◌, ◌*◌, take, drop, IsTrue}
+use Rattle.std.proofs.Common.{◌+◌, ◌*◌, take, drop, IsTrue}
 use Rattle.lx_fhdl.specs.Below.{all_stmts_below}
 use Rattle.lx_lower.specs.Drivers.{AreMarked, gives_block}
 use Rattle.lx_lower.specs.Over.{block_over}
