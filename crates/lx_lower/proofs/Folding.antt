@@ -68,6 +68,9 @@ whole_there s n xs ts k node x keep e f = subst (λ (t : Target). TargetIsThere 
 part_there : (s : Shapes) (n : ℕ) (xs : List Expr) (ts : List Target) (k : ℕ) (node : Target) (x : SigId) (low len : ℕ) → TargetNodesKeep s n xs ts → slice_get ts k ≡ Some node → node ≡ target.Part x low len → TargetIsThere s n xs (target.Part x low len)
 part_there s n xs ts k node x low len keep e f = subst (λ (t : Target). TargetIsThere s n xs t) f (keep.there k node e)
 
+pub part_within : (s : Shapes) (n : ℕ) (xs : List Expr) (ts : List Target) (k : ℕ) (node : Target) (x : SigId) (low len : ℕ) → TargetNodesKeep s n xs ts → slice_get ts k ≡ Some node → node ≡ target.Part x low len → x.0 < n
+part_within s n xs ts k node x low len keep e f = (part_there s n xs ts k node x low len keep e f).0
+
 pub part_some : (s : Shapes) (n : ℕ) (xs : List Expr) (ts : List Target) (k : ℕ) (node : Target) (x : SigId) (low len : ℕ) → TargetNodesKeep s n xs ts → slice_get ts k ≡ Some node → node ≡ target.Part x low len → 1 ≤ len
 part_some s n xs ts k node x low len keep e f = (part_there s n xs ts k node x low len keep e f).1
 

@@ -3,6 +3,7 @@ pub mod BySignal
 pub mod Choices
 pub mod Conditions
 pub mod Domains
+pub mod Driving
 pub mod Flats
 pub mod Folding
 pub mod Freedom

@@ -1,6 +1,6 @@
 -- Lists of statements, one for each signal.
 use Rattle.std.proofs.Common.{◌≡◌, ℕ, ◌+◌, ◌<◌, ◌≤◌, true, nat_lt, List, [], ◌∷◌, ◌++◌, length, drop, get_or, map, add-one, drop-cons, to_z, of_z, refl, sym, ap, ◌∙◌, subst, arith, inl, inr}
-use Rattle.std.specs.Prelude.{ℤ, FitsSigned, Option, Some, None, slice_get}
+use Rattle.std.specs.Prelude.{ℤ, FitsSigned, Option, Some, None, slice_get, IsTrue}
 use Rattle.std.proofs.lemmas.Bool.{cases_lt, and_parts, and_from}
 use Rattle.std.proofs.lemmas.List.{get_or_append_left, get_or_push, get_or_default, length_push, length-map, drop_all}
 use Rattle.std.specs.Int.{w128}
@@ -19,10 +19,12 @@ use Rattle.lx_lowering.specs.Flat.{append, one}
 use Rattle.lx_lowering.specs.Lowering.{lists_from}
 use Rattle.lx_lower.specs.Drafts.{shapes_in}
 use Rattle.lx_lower.specs.Fixed.{chosen, constant_in}
+use Rattle.lx_lower.specs.Drivers.{driven_at, AreDrivers}
 use Rattle.lx_lower.specs.Lists.{list_at, AreLists, AreForSignals, AreNumbers, ListsPut, all_lists, folded_lists, lists_after}
 use Rattle.lx_lower.specs.Over.{AreOver, PutOver, stmt_over, block_over}
 use Rattle.lx_lower.specs.Puts.{IsDraft, AreThere, Grows, Put, PutSome, block_of}
 use Rattle.lx_lower.specs.declared.blocks.Draft.{Draft}
+use Rattle.lx_lower.specs.declared.drivers.Driven.{Driven}
 use Rattle.lx_lower.proofs.Puts.{grows_same, grows_then, there_kept, block_kept, block_append, put_is, some_more, some_is}
 use Rattle.lx_lower.proofs.Splitting.{block_over_kept}
 
@@ -62,13 +64,23 @@ list_more x n lists list f h there e =
           ];
     }
 
-pub split_more : (ss : List Signal) (flat : List Stmt) (a b c : Draft) (n : ℕ) (lists : List (List StmtId)) (list ids : List StmtId) → AreOver a flat → ListsPut ss flat a b n lists (λ x. split_block x (block_over a flat ids))
-    → PutOver ss flat b c [] list (split_block n (block_over b flat ids)) → ListsPut ss flat a c (n + 1) (lists ++ list ∷ []) (λ x. split_block x (block_over a flat ids))
-split_more ss flat a b c n lists list ids over h p = record {
-  grows = grows_then h.grows p.put.grows;
-  over = p.over;
-  blocks = list_more c n lists list (λ x. split_block x (block_over a flat ids)) (lists_kept p.put.grows h.blocks) p.put.there (p.put.block ∙ ap (split_block n) (block_over_kept flat ids h.grows over));
-}
+-- the statements of one signal
+pub own_is : (marks : List Driven) (k : ℕ) (item : Driven) (shown : List StmtId) → slice_get marks k ≡ Some item → shown ≡ item.ids → shown ≡ (driven_at marks k).ids
+own_is marks k item shown e f = f ∙ sym (ap (λ (d : Driven). d.ids) (get_or_from_slice_get marks k item (record { ids = []; last = 0 }) e))
+
+pub own_there : (a : Draft) (flat : List Stmt) (n : ℕ) (ids : List StmtId) (marks : List Driven) (k : ℕ) (shown : List StmtId) → AreDrivers a flat n ids marks → k < n → shown ≡ (driven_at marks k).ids → IsTrue (all_stmts_below (length flat) shown)
+own_there a flat n ids marks k shown h l e = subst (λ (is : List StmtId). IsTrue (all_stmts_below (length flat) is)) (sym e) (h.there k l)
+
+pub split_more : (ss : List Signal) (flat : List Stmt) (a b c : Draft) (n : ℕ) (lists : List (List StmtId)) (list ids own : List StmtId) (marks : List Driven) → AreOver a flat → AreDrivers a flat (length ss) ids marks → n < length ss → own ≡ (driven_at marks n).ids
+    → ListsPut ss flat a b n lists (λ x. split_block x (block_over a flat ids))
+    → PutOver ss flat b c [] list (split_block n (block_over b flat own)) → ListsPut ss flat a c (n + 1) (lists ++ list ∷ []) (λ x. split_block x (block_over a flat ids))
+split_more ss flat a b c n lists list ids own marks over driven l e h p =
+    let same = ap (split_block n) (block_over_kept flat own h.grows over) ∙ ap (λ (is : List StmtId). split_block n (block_over a flat is)) e ∙ driven.same n l in
+    record {
+      grows = grows_then h.grows p.put.grows;
+      over = p.over;
+      blocks = list_more c n lists list (λ x. split_block x (block_over a flat ids)) (lists_kept p.put.grows h.blocks) p.put.there (p.put.block ∙ same);
+    }
 
 -- ---- lists that are put one after the other, or constants in their place
 

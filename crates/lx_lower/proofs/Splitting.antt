@@ -1,5 +1,5 @@
 -- What flat statements assign to one signal, put into a list one after the other.
-use Rattle.std.proofs.Common.{◌≡◌, ℕ, ◌+◌, ◌<◌, true, false, cond, List, [], ◌∷◌, length, take, get_or, refl, sym, ap, ◌∙◌, subst, arith}
+use Rattle.std.proofs.Common.{◌≡◌, ℕ, ◌+◌, ◌<◌, true, false, cond, List, [], ◌∷◌, ◌++◌, length, take, get_or, refl, sym, ap, ◌∙◌, subst, arith}
 use Rattle.std.proofs.lemmas.List.{take_more}
 use Rattle.lx_circuit.specs.Terms.{Term}
 use Rattle.lx_circuit.specs.Statements as tree
@@ -44,14 +44,16 @@ split_append : (x : ℕ) (a b : tree.Block) → split_block x (append a b) ≡ a
 split_append x tree.Done b = refl
 split_append x (tree.Then s ss) b = ap (append (split x s)) (split_append x ss b) ∙ sym (append_all (split x s) (split_block x ss) (split_block x b))
 
-split_more : (x : ℕ) (f : ℕ → tree.Stmt) (ids : List StmtId) (k : ℕ) (d : StmtId) → k < length ids → append (split_block x (block_at f (take k ids))) (split x (f (get_or ids k d).place)) ≡ split_block x (block_at f (take (k + 1) ids))
-split_more x f ids k d l =
-    let own = f (get_or ids k d).place in
+pub split_last : (x : ℕ) (f : ℕ → tree.Stmt) (ids : List StmtId) (i : StmtId) → append (split_block x (block_at f ids)) (split x (f i.place)) ≡ split_block x (block_at f (ids ++ i ∷ []))
+split_last x f ids i =
+    let own = f i.place in
     sym (
-    ap (λ (is : List StmtId). split_block x (block_at f is)) (take_more ids k d l)
-    ∙ ap (split_block x) (block_append f (take k ids) (get_or ids k d ∷ []))
-    ∙ split_append x (block_at f (take k ids)) (one own)
-    ∙ ap (append (split_block x (block_at f (take k ids)))) (append_done (split x own)))
+    ap (split_block x) (block_append f ids (i ∷ []))
+    ∙ split_append x (block_at f ids) (one own)
+    ∙ ap (append (split_block x (block_at f ids))) (append_done (split x own)))
+
+pub split_more : (x : ℕ) (f : ℕ → tree.Stmt) (ids : List StmtId) (k : ℕ) (d : StmtId) → k < length ids → append (split_block x (block_at f (take k ids))) (split x (f (get_or ids k d).place)) ≡ split_block x (block_at f (take (k + 1) ids))
+split_more x f ids k d l = split_last x f (take k ids) (get_or ids k d) ∙ ap (λ (is : List StmtId). split_block x (block_at f is)) (sym (take_more ids k d l))
 
 pub split_next : (ss : List Signal) (flat : List Stmt) (a b c : Draft) (ids more most list : List StmtId) (x k : ℕ) (d : StmtId) → k < length list → AreOver a flat → PutOver ss flat a b ids more (split_block x (block_over a flat (take k list)))
     → PutOver ss flat b c more most (split x (stmt_over b flat (get_or list k d).place)) → PutOver ss flat a c ids most (split_block x (block_over a flat (take (k + 1) list)))

@@ -1,4 +1,5 @@
 pub mod Drafts
+pub mod Drivers
 pub mod Exprs
 pub mod Fixed
 pub mod Keys

@@ -5,13 +5,13 @@ ghost use Rattle.lx_circuit.specs.Values.{value_of};
 ghost use Rattle.lx_circuit.specs.Statements.{after_pieces, laid_over, pieces, taken, taken_block};
 ghost use Rattle.lx_fhdl.specs.Below.{all_branches_below, all_stmts_below};
 ghost use Rattle.lx_fhdl.specs.Keeping.{BranchesStand};
-ghost use Rattle.lx_fhdl.specs.Stmts.{block_at, branches_at};
+ghost use Rattle.lx_fhdl.specs.Stmts.{branches_at};
 ghost use Rattle.lx_fhdl.specs.Trees.{term_at};
 ghost use Rattle.lx_fhdl.specs.Lowered.{are_for, is_for, is_plain_target};
 ghost use Rattle.lx_lowering.specs.Constants.{block_reads_none, branches_read_none, names_none, reads_none, zeros};
 ghost use Rattle.lx_lower.specs.Drafts.{shapes_in, target_in};
 ghost use Rattle.lx_lower.specs.Fixed.{AreFree, AreNarrow, AreValues, IsFixed, chosen, folded_in};
-ghost use Rattle.lx_lower.specs.Over.{AreOver, block_over, stmt_over};
+ghost use Rattle.lx_lower.specs.Over.{AreOver, stmt_over};
 ghost use Rattle.lx_lower.specs.Puts.{AreThere, IsDraft, block_of, term_of};
 
 use crate::blocks::Draft;

@@ -7,6 +7,7 @@ pub mod blocks;
 pub mod conds;
 pub mod copies;
 pub mod drafts;
+pub mod drivers;
 pub mod exprs;
 pub mod fixed;
 pub mod flat;

@@ -12,6 +12,7 @@ ghost use Rattle.lx_lower.specs.Puts.{AreThere, IsDraft, Put, block_of};
 
 use crate::blocks::{Draft, put_assignment};
 use crate::conds::push_constant;
+use crate::drivers::drivers;
 use crate::fixed::fixed_exprs;
 use crate::fold::folded_number;
 use crate::split::split_list;
@@ -32,10 +33,12 @@ pub fn split_all(
     requires draft { IsDraft signals.now draft.old }
     ensures { IfOk result (λ lists. ListsPut signals.now flat.now draft.old draft.new (length signals.now) lists (λ x. split_block x (block_over draft.old flat.now ids.now))) }
 {
+    let marks = drivers(alloc, signals, draft, flat, ids)?;
     let bound = flat.len();
     let mut lists = List::new(alloc);
     for x in 0..signals.len() {
-        let list = split_list(alloc, signals, draft, flat, SigId(x), ids, bound)?;
+        let own = marks.at(x).ids.as_slice();
+        let list = split_list(alloc, signals, draft, flat, SigId(x), own, bound)?;
         lists.push(list)?;
     }
     Ok(lists)

@@ -1,6 +1,6 @@
 //! Statements of a design's domains, flat and then by signals.
 
-ghost use Rattle.std.specs.Prelude.{◌≡◌, ◌++◌, ◌<◌, ◌≤◌, [], length, IfOk, OnOk, IsTrue};
+ghost use Rattle.std.specs.Prelude.{◌≡◌, ◌<◌, [], length, IfOk, IsTrue};
 ghost use Rattle.lx_fhdl.specs.Below.{all_stmts_below};
 ghost use Rattle.lx_fhdl.specs.Designs.{stmts_of};
 ghost use Rattle.lx_fhdl.specs.Keeping.{Keeps};
@@ -9,7 +9,7 @@ ghost use Rattle.lx_lower.specs.Fixed.{AreNarrow};
 ghost use Rattle.lx_lower.specs.Over.{AreOver, PutOver, block_over};
 ghost use Rattle.lx_lower.specs.Parts.{AreAlone, AreFlats, AreListsIn, DomainsPut, PartsPut, folded_split, split_domains, split_lists};
 ghost use Rattle.lx_lower.specs.Puts.{IsDraft};
-ghost use Rattle.lx_lower.specs.Sources.{IsReady, signals_for};
+ghost use Rattle.lx_lower.specs.Sources.{IsReady};
 
 use crate::blocks::{Draft, start_draft};
 use crate::exprs::{LoweredExprs, lower_exprs};
