@@ -9,7 +9,7 @@ use Rattle.lx_vtext.specs.declared.operators.BinOp.TheVariants as op
 use Rattle.lx_vtext.specs.Tree.{Name, VExpr, VExprs, Net, Literal, Select, Word, Unary, Binary, Choose, Concat, Repeat, ToSigned, ToUnsigned, NoMore, More, VTarget, Whole, Part, WholeWord, PartWord, VStmt, Assign, When, VElse, NoElse, Else, VBlock, EndBlock, InBlock, VModule}
 use Rattle.lx_vmeaning.specs.Meaning.{Sizes, Valuation, Meaning, meaning, meanings, own, leaf, extend, compare, choose, concat_bits, width_sum, repeated, read_word, truth, unary, binary, assigned, holds, add_bits, sub_bits, mul_bits, and_bits, or_bits, xor_bits, less, less_equal, greater, greater_equal, equal, not_equal, fill_shift}
 use Rattle.lx_vmeaning.specs.Runs.{Driver, Outside, ByAssign, ByBlock, Clocked, Nothing, by_driver, sizes, new_pattern, run_stmt, run_else, run_block, set_bits}
-use Rattle.lx_vmeaning.specs.Cycle.{reads, some_reads, stmt_reads, else_reads, block_reads, driver_reads}
+use Rattle.lx_vmeaning.specs.Loops.{reads, some_reads, stmt_reads, else_reads, block_reads, driver_reads}
 
 -- two valuations agree on the nets where a test holds
 abbrev pub AgreeOn : Valuation → Valuation → (Name → Bool) → Type 0

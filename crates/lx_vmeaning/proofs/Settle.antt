@@ -5,7 +5,7 @@ use Rattle.std.proofs.Math.Path.{fun_ext}
 use Rattle.lx_vtext.specs.Tree.{Name, VModule}
 use Rattle.lx_vmeaning.specs.Meaning.{Valuation}
 use Rattle.lx_vmeaning.specs.Runs.{driver, by_driver, IsVSettled}
-use Rattle.lx_vmeaning.specs.Cycle.{HasNoLoop}
+use Rattle.lx_vmeaning.specs.Loops.{HasNoLoop}
 use Rattle.lx_vmeaning.specs.Settling.{VSettlesOnce}
 use Rattle.lx_vmeaning.proofs.Frames.{by_driver_same}
 

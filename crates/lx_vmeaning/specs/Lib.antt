@@ -1,5 +1,10 @@
+pub mod Blocks
 pub mod Cycle
+pub mod Driving
+pub mod Loops
 pub mod Meaning
+pub mod Naming
 pub mod Runs
 pub mod Settling
+pub mod Widths
 pub mod Worked
