@@ -1,5 +1,6 @@
 pub mod Cases
 pub mod Fitting
 pub mod Frames
+pub mod Locality
 pub mod Settle
 pub mod Views

@@ -1,5 +1,8 @@
 pub mod Circuit
+pub mod Fitting
+pub mod Memories
 pub mod Operands
+pub mod Places
 pub mod Reads
 pub mod Settling
 pub mod Shapes
