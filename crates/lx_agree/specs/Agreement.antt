@@ -1,11 +1,12 @@
 -- When a Verilog module gives what a circuit means.
-use Rattle.std.specs.Prelude.{◌≡◌, ℕ, ℤ, Bool, true, false, List, [], ◌∷◌, ◌++◌, Option, Some, None, ◌+◌, ◌<◌, ◌^◌, length, map}
-use Rattle.lx_num.specs.Ints.{modulo, read_bits}
+use Rattle.std.specs.Prelude.{◌≡◌, ℕ, ℤ, Bool, true, false, List, [], ◌∷◌, ◌++◌, Option, Some, None, option_map, ◌+◌, ◌<◌, ◌^◌, length, map}
+use Rattle.lx_num.specs.declared.Shape.{Shape}
+use Rattle.lx_num.specs.Ints.{modulo, read_bits, shape}
 use Rattle.lx_circuit.specs.Values.{Values}
 use Rattle.lx_circuit.specs.Circuit.{Circuit, Domain, Step, Role, Input, role, shapes, IsView, InputsFit, StepsFit}
-use Rattle.lx_vtext.specs.Tree.{Name, VPort, VModule}
+use Rattle.lx_vtext.specs.Tree.{Name, VNet, VPort, VModule}
 use Rattle.lx_vmeaning.specs.Meaning.{Valuation}
-use Rattle.lx_vmeaning.specs.Runs.{VStep, IsVView}
+use Rattle.lx_vmeaning.specs.Runs.{VStep, IsVView, all_nets, net_named}
 
 -- the net of each signal, and the clock of each domain
 pub record Naming : Type 0 where
@@ -41,14 +42,25 @@ pub record SameRun (c : Circuit) (names : Naming) (steps : List Step) (inputs : 
   pub same_steps : SameSteps c names steps v_steps
   pub same_inputs : SameInputs c names inputs v_inputs
 
--- The circuit and the module have a view after every run, and each signal has the number of its net
--- in every pair of views.
+-- the width and sign that a net is declared with
+abbrev pub net_shape : VNet → Shape
+net_shape n = shape n.bits n.signed
+
+-- Each signal's net is declared with the signal's width and sign: an undeclared name would be a net that nothing drives.
+pub record Declares (c : Circuit) (m : VModule) (names : Naming) : Type 0 where
+  pub nets : (x : ℕ) → x < length c.signals → option_map net_shape (net_named (names.net x) (all_nets m)) ≡ Some (shapes c x)
+
+-- each signal has the number of its net
+pub record SameView (c : Circuit) (names : Naming) (v : Values) (w : Valuation) : Type 0 where
+  pub signals : (x : ℕ) → x < length c.signals → v x ≡ number c x (w.nets (names.net x))
+
+-- The module declares the circuit's signals, both have a view after every run, and these are the same.
 pub record Agrees (c : Circuit) (m : VModule) (names : Naming) : Type 0 where
+  pub declares : Declares c m names
   pub view : (steps : List Step) (inputs : Values) → (v : Values) × IsView c steps inputs v
   pub v_view : (steps : List VStep) (inputs : Name → ℕ) → (w : Valuation) × IsVView m steps inputs w
   pub same : (steps : List Step) (inputs : Values) (v_steps : List VStep) (v_inputs : Name → ℕ) → SameRun c names steps inputs v_steps v_inputs
-      → (v : Values) (w : Valuation) → IsView c steps inputs v → IsVView m v_steps v_inputs w
-      → (x : ℕ) → x < length c.signals → v x ≡ number c x (w.nets (names.net x))
+      → (v : Values) (w : Valuation) → IsView c steps inputs v → IsVView m v_steps v_inputs w → SameView c names v w
 
 -- what a port shows
 pub record PortOf : Type 0 where

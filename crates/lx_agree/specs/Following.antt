@@ -7,15 +7,15 @@ use Rattle.lx_vtext.specs.Tree.{Name, VModule}
 use Rattle.lx_vmeaning.specs.Meaning.{Valuation}
 use Rattle.lx_vmeaning.specs.Runs.{IsVSettled, v_next, v_first}
 use Rattle.lx_vmeaning.specs.Cycle.{HasCycleMeaning}
-use Rattle.lx_agree.specs.Agreement.{Naming, pattern, SameInputs, Agrees}
+use Rattle.lx_agree.specs.Agreement.{Naming, pattern, SameInputs, Declares, Agrees}
 
 -- each registered signal's net has its pattern
 pub record SameState (c : Circuit) (names : Naming) (state : Values) (v_state : Valuation) : Type 0 where
-  pub each : (x d : ℕ) → role c x ≡ Sync d → v_state.nets (names.net x) ≡ pattern c x (state x)
+  pub signals : (x d : ℕ) → role c x ≡ Sync d → v_state.nets (names.net x) ≡ pattern c x (state x)
 
 -- each signal's net has its pattern
 pub record SameValues (c : Circuit) (names : Naming) (v : Values) (w : Valuation) : Type 0 where
-  pub each : (x : ℕ) → x < length c.signals → w.nets (names.net x) ≡ pattern c x (v x)
+  pub signals : (x : ℕ) → x < length c.signals → w.nets (names.net x) ≡ pattern c x (v x)
 
 -- where states and inputs are the same, settled values have settled patterns that are theirs
 abbrev pub Settles : Circuit → VModule → Naming → Type 0
@@ -34,6 +34,7 @@ Steps c m names =
     → SameState c names (next_state c state v rises) (v_next m v_state w v_rises)
 
 pub record Follows (c : Circuit) (m : VModule) (names : Naming) : Type 0 where
+  pub declares : Declares c m names
   pub settles : Settles c m names
   pub steps : Steps c m names
   pub starts : SameState c names (first_state c) (v_first m)

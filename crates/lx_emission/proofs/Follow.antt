@@ -138,7 +138,7 @@ comb_pattern d names state inputs v x can settled e =
     ∙ own_pattern d v x d.comb (reset_of_signal d x) can.keeps can.keeps.comb.there can.lowered.comb
 
 -- the circuit has the design's signals
-made_within : (d : Design) (x : ℕ) → x < length (circuit_of d).signals → x < length d.signals
+pub made_within : (d : Design) (x : ℕ) → x < length (circuit_of d).signals → x < length d.signals
 unfolding circuit_of
 made_within d x lt = omega (arith, length-map d.signals made_of)
 
@@ -190,7 +190,7 @@ clocked_holds : (d : Design) (names : List Name) (state inputs v : Values) (v_st
 clocked_holds d names state inputs v v_state v_inputs w x k ids lt now settled same e =
     now.has.signals x lt
     ∙ (ap (λ z. modulo z (2 ^ (shapes d x).bits)) (settled.each x ∙ ap (by_role (circuit_of d) state inputs v x) e)
-    ∙ sym (same.each x k e))
+    ∙ sym (same.signals x k e))
 
 comb_holds : (d : Design) (names : List Name) (state inputs v : Values) (v_state : Valuation) (v_inputs : Name → ℕ) (w : Valuation) (x : ℕ) → CanBeEmitted d names → x < length d.signals → Moment d names v w → IsSettled (circuit_of d) state inputs v
     → role (circuit_of d) x ≡ Comb → (o : Option ExprId) → single d (own d x d.comb) ≡ o → Holds d names v_state v_inputs w x (combined (own d x d.comb) o)
@@ -279,5 +279,5 @@ pub settles : (d : Design) (names : List Name) → CanBeEmitted d names → Sett
 settles d names can state inputs v v_state v_inputs fits inputs_fit same_s same_i settled = (
   patterns_of d names v v_inputs v_state,
   settled_for d names state inputs v v_state v_inputs can fits inputs_fit same_s same_i settled,
-  record { each = λ x lt. net_pattern d names can.named v v_inputs v_state x (made_within d x lt) },
+  record { signals = λ x lt. net_pattern d names can.named v v_inputs v_state x (made_within d x lt) },
 )

@@ -15,7 +15,7 @@ use Rattle.lx_vmeaning.specs.Meaning.{Sizes, Valuation, meaning, assigned, holds
 use Rattle.lx_vmeaning.specs.Runs as runs
 use Rattle.lx_vmeaning.proofs.Views as v_views
 use Rattle.lx_vmeaning.specs.Runs.{IsVSettled, driver, first_driver, first_net, sizes, run_block, v_next, v_first, next_net}
-use Rattle.lx_agree.specs.Agreement.{pattern, SameInputs}
+use Rattle.lx_agree.specs.Agreement.{pattern, net_shape, SameInputs, Declares}
 use Rattle.lx_agree.specs.Following.{SameState, Steps, Follows}
 use Rattle.lx_fhdl.specs.Below.{StmtId}
 use Rattle.lx_fhdl.specs.Designs.{shapes, signal_number, domain_of, domains_from, circuit_of, block, stmts_of}
@@ -37,7 +37,7 @@ use Rattle.lx_emission.proofs.Runs.{block_runs}
 use Rattle.lx_emission.proofs.Blocks.{sync_plain, sync_below, clocked_some, clocked_own, reset_within}
 use Rattle.lx_emission.proofs.Within.{list_made}
 use Rattle.lx_emission.proofs.Whole.{cycle_meaning, drivers_are}
-use Rattle.lx_emission.proofs.Follow.{Moment, moment, patterns_of, has_patterns, settled_for, settles, reset_assigned, own_pattern}
+use Rattle.lx_emission.proofs.Follow.{Moment, moment, patterns_of, has_patterns, settled_for, settles, reset_assigned, own_pattern, made_within}
 
 -- ---- the domain of a number
 
@@ -172,9 +172,9 @@ steps d names can state inputs v v_state w v_inputs rises v_rises fits inputs_fi
     let all : SignalsFit d v = record { each = λ x. settled_fits (circuit_of d) (design.keeps_shapes d can.keeps) state inputs v fits inputs_fit settled x } in
     let now = moment d names v w can all (settled_patterns d names state inputs v v_state w v_inputs can fits inputs_fit same_s same_i settled v_settled) in
     record {
-      each = λ x k e.
+      signals = λ x k e.
           let within = clocked_within d x k (own d x (stmts_of k d.sync)) (sync_drive d x k e) in
-          registered_next d names state v v_state w rises v_rises x k can now e (same_s.each x k e) (sync_held d state inputs v x k settled e) (rise k (within_circuit d k within));
+          registered_next d names state v v_state w rises v_rises x k can now e (same_s.signals x k e) (sync_held d state inputs v x k settled e) (rise k (within_circuit d k within));
     }
 
 -- ---- the first state
@@ -194,10 +194,18 @@ literal_first d names x g can lt k body e =
 starts : (d : Design) (names : List Name) → CanBeEmitted d names → SameState (circuit_of d) (naming d names) (first_state (circuit_of d)) (v_first (emitted d names))
 unfolding signal_net
 starts d names can = record {
-  each = λ x k e.
+  signals = λ x k e.
       let lt = registered d names x k can e in
       ap first_net (net_of_signal d names can.keeps can.named can.ports x lt) ∙ literal_first d names x (drive d x) can lt k (own d x (stmts_of k d.sync)) (sync_drive d x k e);
 }
 
+-- ---- declarations
+
+declared : (d : Design) (names : List Name) → CanBeEmitted d names → Declares (circuit_of d) (emitted d names) (naming d names)
+unfolding signal_net
+declared d names can = record {
+  nets = λ x lt. ap (option_map net_shape) (net_of_signal d names can.keeps can.named can.ports x (made_within d x lt));
+}
+
 pub follows : (d : Design) (names : List Name) → CanBeEmitted d names → Follows (circuit_of d) (emitted d names) (naming d names)
-follows d names can = record { settles = settles d names can; steps = steps d names can; starts = starts d names can }
+follows d names can = record { declares = declared d names can; settles = settles d names can; steps = steps d names can; starts = starts d names can }
