@@ -9,7 +9,8 @@ use Rattle.lx_circuit.specs.Places.{Place, Values, At, Word}
 use Rattle.lx_circuit.specs.Values.{value_of, is_zero, count_of, nth_or_last}
 use Rattle.lx_circuit.specs.Statements.{Target, Targets, Whole, Part, CatTarget, PickTarget, NoTarget, MoreTargets, Stmt, Assign, If, Case, Branches, NoBranch, Branch, Arms, NoArm, Arm, Block, Done, Then, Piece, pieces, parts_pieces, items_pieces, target_bits, taken, taken_branch, taken_arm, taken_block, after_pieces, laid_over, is_target, some_target, drives, drives_branch, drives_arm, drives_block}
 use Rattle.lx_circuit.specs.Reads.{names, target_names, targets_name, reads, reads_branch, reads_arm, reads_block}
-use Rattle.lx_circuit.proofs.Locality.{Alike, term_same}
+use Rattle.lx_circuit.specs.Locality.{Alike}
+use Rattle.lx_circuit.proofs.Locality.{term_same}
 use Rattle.lx_circuit.proofs.Cases.{by_test, after_append, same_choice, same_result}
 
 -- two valuations agree where a test holds

@@ -1,5 +1,5 @@
 -- Shape, fault, value and taken assignments hang on the places that are named alone.
-use Rattle.std.proofs.Common.{◌≡◌, ℕ, ℤ, pos, Bool, true, List, ◌∷◌, ◌||◌, ◌-◌, ◌*◌, refl, ◌∙◌, ap, ap₂, eq-eqb}
+use Rattle.std.proofs.Common.{◌≡◌, ℤ, pos, Bool, List, ◌∷◌, ◌||◌, ◌-◌, ◌*◌, refl, ◌∙◌, ap, ap₂, eq-eqb}
 use Rattle.std.specs.Prelude.{Option}
 use Rattle.std.proofs.lemmas.Bool.{or_left, or_right}
 use Rattle.lx_num.specs.declared.Shape.{Shape}
@@ -7,15 +7,10 @@ use Rattle.lx_num.specs.Ints.{unsigned, wrapped, field_of}
 use Rattle.lx_circuit.specs.declared.WidthFault.{WidthFault}
 use Rattle.lx_circuit.specs.Places.{Place, Values, At, Word, is_word}
 use Rattle.lx_circuit.specs.Terms.{Term, Terms, Constant, Signal, Unary, Binary, Mux, Cat, Replicate, Slice, Pick, Fetch, NoTerm, MoreTerms}
-use Rattle.lx_circuit.specs.Shapes.{Shapes, shape_of, shapes_of, fault_of, faults_of, or_else, unary_shape, binary_shape, binary_fault, joined, too_wide, bits_sum, pick_shape, replicate_fault, slice_fault, pick_fault, constant_fault}
+use Rattle.lx_circuit.specs.Shapes.{Shapes, shapes_of, faults_of, or_else, unary_shape, binary_shape, binary_fault, joined, too_wide, bits_sum, pick_shape, replicate_fault, slice_fault, pick_fault, constant_fault}
 use Rattle.lx_circuit.specs.Values.{value_of, values_of, unary_value, binary_value, mux_value, cat_pattern, replicate_value, pick_value, count_of}
 use Rattle.lx_circuit.specs.Reads.{names, some_names}
-
--- two pairs of shapes and values are alike where a test holds
-pub record Alike (s t : Shapes) (v w : Values) (p : Place → Bool) : Type 0 where
-  pub shapes : (x : ℕ) → p (At x) ≡ true → s x ≡ t x
-  pub signals : (x : ℕ) → p (At x) ≡ true → v (At x) ≡ w (At x)
-  pub words : (m k : ℕ) → p (Word m k) ≡ true → v (Word m k) ≡ w (Word m k)
+use Rattle.lx_circuit.specs.Locality.{Alike, TermSame}
 
 -- they are alike on fewer places too
 pub alike_left : (s t : Shapes) (v w : Values) (p q : Place → Bool) → Alike s t v w (λ y. p y || q y) → Alike s t v w p
@@ -32,12 +27,7 @@ alike_right s t v w p q h = record {
   words = λ m k e. h.words m k (or_right (p (Word m k)) (q (Word m k)) e);
 }
 
--- an expression has the same shape, fault and value
-pub record TermSame (s t : Shapes) (v w : Values) (e : Term) : Type 0 where
-  pub shape : shape_of s e ≡ shape_of t e
-  pub fault : fault_of s e ≡ fault_of t e
-  pub value : value_of s v e ≡ value_of t w e
-
+-- so have several
 pub record TermsSame (s t : Shapes) (v w : Values) (es : Terms) : Type 0 where
   pub shapes : shapes_of s es ≡ shapes_of t es
   pub faults : faults_of s es ≡ faults_of t es

@@ -1,9 +1,11 @@
 pub mod Circuit
 pub mod Fitting
+pub mod Locality
 pub mod Memories
 pub mod Operands
 pub mod Places
 pub mod Reads
+pub mod Runs
 pub mod Settling
 pub mod Shapes
 pub mod Statements
