@@ -9,7 +9,7 @@ use Rattle.lx_circuit.specs.Circuit.{Made, Circuit}
 use Rattle.lx_lowering.specs.Flat.{one}
 
 abbrev pub signal_of : Shape → ℤ → Made
-signal_of a reset = record { shape = a; reset = reset; reset_less = false }
+signal_of a reset = record { shape = a; reset = reset; reset_less = false; given = false }
 
 -- s has four signed bits and is -3 at first, u has eight, the counter q has two, and its reset r has one
 abbrev pub instance_signals : List Made
@@ -42,5 +42,7 @@ instance = record {
   signals = instance_signals;
   comb = Then branches (Then arms Done);
   domains = record { name = codes "sys"; reset = Some 3; stmts = counting } ∷ [];
+  memories = [];
+  ports = [];
   ios = 0 ∷ 1 ∷ 3 ∷ [];
 }

@@ -122,7 +122,7 @@ low_bits = Then (Assign (Part 1 0 4) (Constant (pos 3) (unsigned 4))) Done
 -- ---- a circuit
 
 abbrev pub signal_of : Shape → ℤ → Made
-signal_of a reset = record { shape = a; reset = reset; reset_less = false }
+signal_of a reset = record { shape = a; reset = reset; reset_less = false; given = false }
 
 -- u is 165 at first, and the others 0; the statements of q, which a reset r sets to 0, are those of a domain
 abbrev pub circuit_of : Block → Block → Circuit
@@ -130,6 +130,8 @@ circuit_of comb sync = record {
   signals = signal_of (shape 4 true) (pos 0) ∷ signal_of (unsigned 8) (pos 165) ∷ signal_of (unsigned 2) (pos 0) ∷ signal_of (unsigned 1) (pos 0) ∷ [];
   comb = comb;
   domains = record { name = codes "sys"; reset = Some 3; stmts = sync } ∷ [];
+  memories = [];
+  ports = [];
   ios = 3 ∷ [];
 }
 
