@@ -17,7 +17,7 @@ use Rattle.lx_circuit.specs.Shapes.{Shapes, shape_of, shapes_of, fault_of, or_el
 use Rattle.lx_circuit.specs.Values.{Values, value_of, values_of, unary_value, binary_value, mux_value, cat_pattern, replicate_value}
 use Rattle.lx_circuit.specs.declared.WidthFault.TheVariants.{BadWidth}
 use Rattle.lx_vtext.specs.Tree as tree
-use Rattle.lx_vtext.specs.Tree.{Name, VExpr, VExprs, Net, Literal, Select, Word, Choose, Concat, Repeat, ToSigned, ToUnsigned, NoMore, More}
+use Rattle.lx_vtext.specs.Tree.{Name, VExpr, VExprs, Net, Literal, PartSelect, Word, Conditional, Concatenation, Replication, ToSigned, ToUnsigned, NoMore, More}
 use Rattle.lx_vmeaning.specs.Meaning as verilog
 use Rattle.lx_vmeaning.specs.Meaning.{Sizes, Valuation, Meaning, extend, meaning, meanings, own, leaf, assigned}
 use Rattle.lx_tie.specs.Stands.{Exact, Drives}
@@ -166,7 +166,7 @@ slice_exact w s n low high t z (Literal bits signed value) l x h k =
 slice_exact w s n low high t z (Net m) l x h k =
     let len = high - low in
     let P : VExpr → Type 0 = λ e. Exact w len false (pos (field_of z low len)) (meaning s e) in
-    cond_both (nat_eq low 0 && nat_eq high n) (ToUnsigned (Net m)) (Select m (high - 1) low) P
+    cond_both (nat_eq low 0 && nat_eq high n) (ToUnsigned (Net m)) (PartSelect m (high - 1) low) P
     (λ e.
     let p = and_parts (nat_eq low 0) (nat_eq high n) e in
     let zero : 0 ≡ low = sym (eqb-true low 0 p.0) in
@@ -178,20 +178,20 @@ slice_exact w s n low high t z (Net m) l x h k =
     let top : low + len - 1 ≡ high - 1 = omega arith in
     subst (λ (j : ℕ). Exact w len false (pos (field_of z low len)) (verilog.select m j low)) top
     (exact_select w m n low len z (pattern_of w n t z (s m).bits (s m).signed (λ u. u.nets m) x) (omega arith) (omega arith)))
-slice_exact w s n low high t z (Select m hi lo) l x h k = absurd (cc)
+slice_exact w s n low high t z (PartSelect m hi lo) l x h k = absurd (cc)
 slice_exact w s n low high t z (Word m i) l x h k = absurd (cc)
 slice_exact w s n low high t z (tree.Unary o a) l x h k = absurd (cc)
 slice_exact w s n low high t z (tree.Binary a o b) l x h k = absurd (cc)
-slice_exact w s n low high t z (Choose c a b) l x h k = absurd (cc)
-slice_exact w s n low high t z (Concat a more) l x h k = absurd (cc)
-slice_exact w s n low high t z (Repeat c a) l x h k = absurd (cc)
+slice_exact w s n low high t z (Conditional c a b) l x h k = absurd (cc)
+slice_exact w s n low high t z (Concatenation a more) l x h k = absurd (cc)
+slice_exact w s n low high t z (Replication c a) l x h k = absurd (cc)
 slice_exact w s n low high t z (ToSigned a) l x h k = absurd (cc)
 slice_exact w s n low high t z (ToUnsigned a) l x h k = absurd (cc)
 
 -- ---- nodes
 
 replicate_exact : (w : Valuation) (s : Sizes) (a : Shape) (count : ℕ) (z : ℤ) (e : VExpr) → replicate_fault a count ≡ None → Exact w a.bits a.signed z (meaning s e)
-    → Exact w (count * a.bits) false (replicate_value a count z) (meaning s (Repeat count e))
+    → Exact w (count * a.bits) false (replicate_value a count z) (meaning s (Replication count e))
 replicate_exact w s a count z e f x =
     let p = by_test_none (nat_eq count 0) BadWidth (too_wide (count * a.bits)) f in
     exact_repeat w a count z (meaning s e) x (omega (arith, eqb-false count 0 p.0))
@@ -219,7 +219,7 @@ node_drives w s h v t o (Cat parts) leaf n l f p e c =
     (cat_exact w s h v t o parts p c)
 node_drives w s h v t o (Replicate of count) leaf n l f p e c =
     let a = shape_of h (t of.place) in
-    exact_drives w (count * a.bits) false (replicate_value a count (value_of h v (t of.place))) (meaning s (Repeat count (o of.place)))
+    exact_drives w (count * a.bits) false (replicate_value a count (value_of h v (t of.place))) (meaning s (Replication count (o of.place)))
     (replicate_exact w s a count (value_of h v (t of.place)) (o of.place) (none_right (fault_of h (t of.place)) (replicate_fault a count) e) c)
 node_drives w s h v t o (Slice of low high) leaf n l f p e c =
     let a = shape_of h (t of.place) in

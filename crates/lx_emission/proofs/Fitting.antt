@@ -157,20 +157,20 @@ slice_fits : (m : VModule) (e : VExpr) (bits low high : ℕ) → IsFit m e → (
 slice_fits m (tree.Literal b signed value) bits low high f w p q r = record { names = refl; widths = width_fits (high - low) (omega arith) (omega arith) }
 slice_fits m (tree.Net n) bits low high f w p q r = by_cover (nat_eq low 0 && nat_eq high bits)
   where
-    by_cover : (b : Bool) → IsFit m (if b then tree.ToUnsigned (tree.Net n) else tree.Select n (high - 1) low)
+    by_cover : (b : Bool) → IsFit m (if b then tree.ToUnsigned (tree.Net n) else tree.PartSelect n (high - 1) low)
     by_cover true = record { names = f.names; widths = f.widths }
     by_cover false = record {
       names = and_from (is_readable m n) (is_within m n (high - 1) low) f.names
           (and_from (nat_le low (high - 1)) (nat_lt (high - 1) (sizes m n).bits) (le-leb low (high - 1) (omega arith)) (lt-ltb (high - 1) (sizes m n).bits (omega (arith, w))));
       widths = width_fits (high - 1 - low + 1) (omega arith) (omega arith);
     }
-slice_fits m (tree.Select k hi lo) bits low high f w p q r = record { names = f.names; widths = f.widths }
+slice_fits m (tree.PartSelect k hi lo) bits low high f w p q r = record { names = f.names; widths = f.widths }
 slice_fits m (tree.Word k index) bits low high f w p q r = record { names = f.names; widths = f.widths }
 slice_fits m (tree.Unary op of) bits low high f w p q r = record { names = f.names; widths = f.widths }
 slice_fits m (tree.Binary a op b) bits low high f w p q r = record { names = f.names; widths = f.widths }
-slice_fits m (tree.Choose c a b) bits low high f w p q r = record { names = f.names; widths = f.widths }
-slice_fits m (tree.Concat first more) bits low high f w p q r = record { names = f.names; widths = f.widths }
-slice_fits m (tree.Repeat count of) bits low high f w p q r = record { names = f.names; widths = f.widths }
+slice_fits m (tree.Conditional c a b) bits low high f w p q r = record { names = f.names; widths = f.widths }
+slice_fits m (tree.Concatenation first more) bits low high f w p q r = record { names = f.names; widths = f.widths }
+slice_fits m (tree.Replication count of) bits low high f w p q r = record { names = f.names; widths = f.widths }
 slice_fits m (tree.ToSigned of) bits low high f w p q r = record { names = f.names; widths = f.widths }
 slice_fits m (tree.ToUnsigned of) bits low high f w p q r = record { names = f.names; widths = f.widths }
 
@@ -209,7 +209,7 @@ cat_fits d names m parts some each p q =
           ∙ and_from (is_width (width_sum (meanings (sizes m) all))) (all_widths_fit (sizes m) all) (width_fits (width_sum (meanings (sizes m) all)) (omega arith) (omega arith)) (parts_widths d names m parts NoMore each refl));
     }
 
-repeat_fits : (m : VModule) (count : ℕ) (e : VExpr) (bits : ℕ) → IsFit m e → (meaning (sizes m) e).width ≡ bits → 1 ≤ count * bits → count * bits ≤ 127 → IsFit m (tree.Repeat count e)
+repeat_fits : (m : VModule) (count : ℕ) (e : VExpr) (bits : ℕ) → IsFit m e → (meaning (sizes m) e).width ≡ bits → 1 ≤ count * bits → count * bits ≤ 127 → IsFit m (tree.Replication count e)
 repeat_fits m count e bits f w p q =
     let same : count * (meaning (sizes m) e).width ≡ count * bits = ap (λ (n : ℕ). count * n) w in
     record {

@@ -179,16 +179,16 @@ slice_lawful (tree.Literal b signed value) bits low high bare p q =
     literal_lawful (high - low) (value / 2 ^ low % 2 ^ (high - low)) p q (mod_below (value / 2 ^ low) (2 ^ (high - low)) (pow_pos (high - low)))
 slice_lawful (tree.Net n) bits low high bare p q = by_cover (nat_eq low 0 && nat_eq high bits)
   where
-    by_cover : (b : Bool) → IsExpr 32 (if b then tree.ToUnsigned (tree.Net n) else tree.Select n (high - 1) low)
+    by_cover : (b : Bool) → IsExpr 32 (if b then tree.ToUnsigned (tree.Net n) else tree.PartSelect n (high - 1) low)
     by_cover true = bare 31
     by_cover false = bare 31
-slice_lawful (tree.Select k hi lo) bits low high bare p q = bare 31
+slice_lawful (tree.PartSelect k hi lo) bits low high bare p q = bare 31
 slice_lawful (tree.Word k index) bits low high bare p q = bare 31
 slice_lawful (tree.Unary op of) bits low high bare p q = bare 31
 slice_lawful (tree.Binary a op b) bits low high bare p q = bare 31
-slice_lawful (tree.Choose c a b) bits low high bare p q = bare 31
-slice_lawful (tree.Concat first more) bits low high bare p q = bare 31
-slice_lawful (tree.Repeat count of) bits low high bare p q = bare 31
+slice_lawful (tree.Conditional c a b) bits low high bare p q = bare 31
+slice_lawful (tree.Concatenation first more) bits low high bare p q = bare 31
+slice_lawful (tree.Replication count of) bits low high bare p q = bare 31
 slice_lawful (tree.ToSigned of) bits low high bare p q = bare 31
 slice_lawful (tree.ToUnsigned of) bits low high bare p q = bare 31
 

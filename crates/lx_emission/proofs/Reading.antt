@@ -113,17 +113,17 @@ choice_text_reads n r c a b h = elim (or_cases (reads n c) (reads n (wide_if r.w
 slice_text_reads : (n : Name) (e : VExpr) (bits low high : ℕ) → reads n (slice_text e bits low high) ≡ true → reads n e ≡ true
 slice_text_reads n (tree.Net k) bits low high h = by_cover (nat_eq low 0 && nat_eq high bits) h
   where
-    by_cover : (b : Bool) → reads n (if b then tree.ToUnsigned (tree.Net k) else tree.Select k (high - 1) low) ≡ true → reads n (tree.Net k) ≡ true
+    by_cover : (b : Bool) → reads n (if b then tree.ToUnsigned (tree.Net k) else tree.PartSelect k (high - 1) low) ≡ true → reads n (tree.Net k) ≡ true
     by_cover true p = p
     by_cover false p = p
 slice_text_reads n (tree.Literal bits signed value) b low high h = h
-slice_text_reads n (tree.Select k hi lo) bits low high h = h
+slice_text_reads n (tree.PartSelect k hi lo) bits low high h = h
 slice_text_reads n (tree.Word k index) bits low high h = h
 slice_text_reads n (tree.Unary op of) bits low high h = h
 slice_text_reads n (tree.Binary a op b) bits low high h = h
-slice_text_reads n (tree.Choose c a b) bits low high h = h
-slice_text_reads n (tree.Concat first more) bits low high h = h
-slice_text_reads n (tree.Repeat count of) bits low high h = h
+slice_text_reads n (tree.Conditional c a b) bits low high h = h
+slice_text_reads n (tree.Concatenation first more) bits low high h = h
+slice_text_reads n (tree.Replication count of) bits low high h = h
 slice_text_reads n (tree.ToSigned of) bits low high h = h
 slice_text_reads n (tree.ToUnsigned of) bits low high h = h
 

@@ -7,7 +7,7 @@ use Rattle.lx_tables.specs.declared.operators.OpRow.{OpRow}
 use Rattle.lx_tables.specs.Operators.{row_of, mix_of}
 use Rattle.lx_circuit.specs.Shapes.{shape_of}
 use Rattle.lx_vtext.specs.Tree as tree
-use Rattle.lx_vtext.specs.Tree.{Name, VExpr, VExprs, Literal, Net, Select, Choose, Concat, Repeat, ToSigned, ToUnsigned, NoMore, More}
+use Rattle.lx_vtext.specs.Tree.{Name, VExpr, VExprs, Literal, Net, PartSelect, Conditional, Concatenation, Replication, ToSigned, ToUnsigned, NoMore, More}
 use Rattle.lx_tie.specs.Rows.{unary_op, binary_op}
 use Rattle.lx_fhdl.specs.Below.{ExprId}
 use Rattle.lx_fhdl.specs.Designs.{term, shapes}
@@ -34,7 +34,7 @@ operand d names k = operand_of names (node_net d.exprs k) (slice_get d.exprs k)
 -- $signed({1'd0, e}): an unsigned operand beside a signed one
 abbrev pub wide_if : Bool → VExpr → VExpr
 wide_if false e = e
-wide_if true e = ToSigned (Concat (Literal 1 false 0) (More e NoMore))
+wide_if true e = ToSigned (Concatenation (Literal 1 false 0) (More e NoMore))
 
 abbrev pub unary_text : OpRow → VExpr → VExpr
 unary_text r a = tree.Unary (unary_op r.text) (wide_if r.widen_left a)
@@ -43,7 +43,7 @@ abbrev pub binary_text : OpRow → VExpr → VExpr → VExpr
 binary_text r a b = tree.Binary (wide_if r.widen_left a) (binary_op r.text) (wide_if r.widen_right b)
 
 abbrev pub choice_text : OpRow → VExpr → VExpr → VExpr → VExpr
-choice_text r c a b = Choose c (wide_if r.widen_left a) (wide_if r.widen_right b)
+choice_text r c a b = Conditional c (wide_if r.widen_left a) (wide_if r.widen_right b)
 
 -- the parts from the last to the first, then those that are done
 abbrev pub parts_onto : (ℕ → VExpr) → List ExprId → VExprs → VExprs
@@ -52,7 +52,7 @@ parts_onto o (i ∷ is) done = parts_onto o is (More (o i.place) done)
 
 abbrev pub concat_of : VExprs → VExpr
 concat_of NoMore = Net []
-concat_of (More e es) = Concat e es
+concat_of (More e es) = Concatenation e es
 
 -- the first part stands last, in the lowest bits
 abbrev pub cat_text : (ℕ → VExpr) → List ExprId → VExpr
@@ -61,7 +61,7 @@ cat_text o parts = concat_of (parts_onto o parts NoMore)
 -- bits low to high - 1 of an operand of so many bits; a select never covers its name
 abbrev pub slice_text : VExpr → ℕ → ℕ → ℕ → VExpr
 slice_text (Literal b s v) bits low high = Literal (high - low) false (v / 2 ^ low % 2 ^ (high - low))
-slice_text (Net n) bits low high = if nat_eq low 0 && nat_eq high bits then ToUnsigned (Net n) else Select n (high - 1) low
+slice_text (Net n) bits low high = if nat_eq low 0 && nat_eq high bits then ToUnsigned (Net n) else PartSelect n (high - 1) low
 slice_text e bits low high = ToUnsigned e
 
 -- the text of an operator or slice, its operands sized by the operator's row
@@ -70,7 +70,7 @@ node_text_of h o (Some (Unary op of)) = unary_text (row_of op (mix_of (h of.plac
 node_text_of h o (Some (Binary op left right)) = binary_text (row_of op (mix_of (h left.place).signed (h right.place).signed)) (o left.place) (o right.place)
 node_text_of h o (Some (Mux cond so other)) = choice_text (row_of op.Mux (mix_of (h so.place).signed (h other.place).signed)) (o cond.place) (o so.place) (o other.place)
 node_text_of h o (Some (Cat parts)) = cat_text o parts
-node_text_of h o (Some (Replicate of count)) = Repeat count (o of.place)
+node_text_of h o (Some (Replicate of count)) = Replication count (o of.place)
 node_text_of h o (Some (Slice of low high)) = slice_text (o of.place) (h of.place).bits low high
 node_text_of h o _ = Net []
 

@@ -45,12 +45,12 @@ by_exprs e0 e1 s low p g = record { exprs = g; longer = omega arith; stays = λ 
 pub by_stmt : (e : List VExpr) (s0 s1 : List VStmt) (i : ℕ) (x : VStmt) → AddedStmt (tree_at e) s0 s1 i x → StmtsPlaced (length e) s1 → GrowsBoth e e s0 s1
 by_stmt e s0 s1 i x a p = record { exprs = grows_none e; longer = a.grows.longer; stays = a.grows.stays; placed = p }
 
-pub assign_put : (e0 e1 : List VExpr) (s0 s1 : List VStmt) (v : Ref) (t : tree.VExpr) (target : VTarget) (u : tree.VTarget) (at_once : Bool) (i : ℕ) → EachLower is_stmt_below s0 → StmtsPlaced (length e0) s0
-    → Put e0 e1 v.place t → IsTarget target u → AddedStmt (tree_at e1) s0 s1 i (node.Assign target at_once v) → StmtsPlaced (length e1) s1 → PutStmt e0 e1 s0 s1 i (tree.Assign u at_once t)
-assign_put e0 e1 s0 s1 v t target u at_once i low p put is a q = record {
-  grows = both_more e0 e1 e1 s0 s0 s1 (by_exprs e0 e1 s0 low p put.grows) (by_stmt e1 s0 s1 i (node.Assign target at_once v) a q);
+pub assign_put : (e0 e1 : List VExpr) (s0 s1 : List VStmt) (v : Ref) (t : tree.VExpr) (target : VTarget) (u : tree.VTarget) (blocking : Bool) (i : ℕ) → EachLower is_stmt_below s0 → StmtsPlaced (length e0) s0
+    → Put e0 e1 v.place t → IsTarget target u → AddedStmt (tree_at e1) s0 s1 i (node.Assign target blocking v) → StmtsPlaced (length e1) s1 → PutStmt e0 e1 s0 s1 i (tree.Assign u blocking t)
+assign_put e0 e1 s0 s1 v t target u blocking i low p put is a q = record {
+  grows = both_more e0 e1 e1 s0 s0 s1 (by_exprs e0 e1 s0 low p put.grows) (by_stmt e1 s0 s1 i (node.Assign target blocking v) a q);
   within = a.within;
-  tree = a.tree ∙ ap (λ (x : tree.VTarget). tree.Assign x at_once (tree_at e1 v.place)) (is.tree (tree_at e1)) ∙ ap (tree.Assign u at_once) put.tree;
+  tree = a.tree ∙ ap (λ (x : tree.VTarget). tree.Assign x blocking (tree_at e1 v.place)) (is.tree (tree_at e1)) ∙ ap (tree.Assign u blocking) put.tree;
 }
 
 -- ---- blocks

@@ -101,11 +101,11 @@ all_taken n (suc k) [] h = refl
 all_taken n (suc k) (x ∷ xs) h = let p = both (nat_lt x.place n) (all_below n xs) h in rw (p.0, all_taken n k xs p.1) refl
 
 pub cat_is : (a b c e : List VExpr) (o : ℕ → tree.VExpr) (xs : List ExprId) (d : ExprId) (first : Ref) (more : List Ref) (i : ℕ) → 0 < length xs → Put a b first.place (o (get_or xs (length xs - 1) d).place)
-    → PutParts b c more (parts_onto o (take (length xs - 1) xs) tree.NoMore) → Added c e i (node.Concat first more) → Put a e i (cat_text o xs)
+    → PutParts b c more (parts_onto o (take (length xs - 1) xs) tree.NoMore) → Added c e i (node.Concatenation first more) → Put a e i (cat_text o xs)
 cat_is a b c e o xs d first more i h p q r =
     let trees : tree.More (tree_at c first.place) (plants (tree_at c) more) ≡ parts_onto o xs tree.NoMore =
     ap (λ (t : tree.VExpr). tree.More t (plants (tree_at c) more)) (kept a b c first.place (o (get_or xs (length xs - 1) d).place) p q.grows).tree
     ∙ ap (tree.More (o (get_or xs (length xs - 1) d).place)) q.trees
     ∙ sym (parts_last o (take (length xs - 1) xs) (get_or xs (length xs - 1) d) tree.NoMore)
     ∙ ap (λ (ys : List ExprId). parts_onto o ys tree.NoMore) (sym (last_apart xs d h)) in
-    put_node a c e i (node.Concat first more) (cat_text o xs) (grows_more a b c p.grows q.grows) r (ap concat_of trees)
+    put_node a c e i (node.Concatenation first more) (cat_text o xs) (grows_more a b c p.grows q.grows) r (ap concat_of trees)

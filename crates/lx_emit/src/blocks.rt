@@ -51,19 +51,19 @@ fn put_reset_assign(
     stmts: &mut Arena<VStmt>,
     sheet: &Sheet,
     x: SigId,
-    at_once: bool,
+    blocking: bool,
 ) -> Result<VStmtId, NoMemory>
     requires sheet { IsSheet sheet.now }
     requires placed { StmtsPlaced (length exprs.old) stmts.old }
     requires signal { x.0 < length sheet.now.design.now.signals }
-    ensures { IfOk result (λ i. PutStmt exprs.old exprs.new stmts.old stmts.new i.place (tree.Assign (tree.Whole (net sheet.now.names.now x.0)) at_once (reset_text sheet.now.design.now x.0))) }
+    ensures { IfOk result (λ i. PutStmt exprs.old exprs.new stmts.old stmts.new i.place (tree.Assign (tree.Whole (net sheet.now.names.now x.0)) blocking (reset_text sheet.now.design.now x.0))) }
 {
     stmts.lower();
     let target = VTarget::Whole(net_name(alloc, sheet, x)?);
     let value = put_reset(exprs, sheet, x)?;
     let node = VStmt::Assign {
         target,
-        at_once,
+        blocking,
         value,
     };
     add_stmt(exprs, stmts, node)

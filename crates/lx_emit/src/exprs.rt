@@ -119,7 +119,7 @@ fn put_wide(
     if widen {
         let zero = put_zero(out)?;
         let more = List::of_one(alloc, of)?;
-        let both = add_expr(out, VExpr::Concat { first: zero, more })?;
+        let both = add_expr(out, VExpr::Concatenation { first: zero, more })?;
         add_expr(out, VExpr::ToSigned(both))
     } else {
         Ok(of)
@@ -236,7 +236,7 @@ fn put_choice(
 {
     let so = put_wide(alloc, out, row.widen_left, yes)?;
     let other = put_wide(alloc, out, row.widen_right, no)?;
-    add_expr(out, VExpr::Choose { cond, so, other })
+    add_expr(out, VExpr::Conditional { cond, so, other })
 }
 
 // Adds the texts of parts, the last one first.
@@ -273,7 +273,7 @@ fn put_cat(
     let last = parts.len() - 1;
     let first = put_operand(alloc, out, sheet, parts[last])?;
     let more = put_parts(alloc, out, sheet, &parts[..last])?;
-    add_expr(out, VExpr::Concat { first, more })
+    add_expr(out, VExpr::Concatenation { first, more })
 }
 
 // Bits `low` to `high - 1` of a net of so many bits; a select never covers its name.
@@ -291,7 +291,7 @@ fn put_select(
         let net = put_net(out, name)?;
         return add_expr(out, VExpr::ToUnsigned(net));
     }
-    let node = VExpr::Select {
+    let node = VExpr::PartSelect {
         name,
         hi: (high - 1) as u64,
         lo: low as u64,
@@ -424,7 +424,7 @@ fn put_copies_of(
 {
     let count = count as u64;
     let of = put_operand(alloc, out, sheet, of)?;
-    add_expr(out, VExpr::Repeat { count, of })
+    add_expr(out, VExpr::Replication { count, of })
 }
 
 // Bits `low` to `high - 1` of an operand.

@@ -63,7 +63,7 @@ fn put_assign(
     exprs: &mut Arena<VExpr>,
     stmts: &mut Arena<VStmt>,
     sheet: &Sheet,
-    at_once: bool,
+    blocking: bool,
     target: TargetId,
     value: ExprId,
 ) -> Result<VStmtId, NoMemory>
@@ -72,14 +72,14 @@ fn put_assign(
     requires target { target.place < length sheet.now.design.now.targets }
     requires value { value.place < length sheet.now.design.now.exprs }
     requires plain { IsPlainTarget (designs.target sheet.now.design.now target.place) }
-    ensures { IfOk result (λ i. PutStmt exprs.old exprs.new stmts.old stmts.new i.place (tree.Assign (target_text sheet.now.design.now sheet.now.names.now (slice_get sheet.now.design.now.targets target.place)) at_once (operand sheet.now.design.now sheet.now.names.now value.place))) }
+    ensures { IfOk result (λ i. PutStmt exprs.old exprs.new stmts.old stmts.new i.place (tree.Assign (target_text sheet.now.design.now sheet.now.names.now (slice_get sheet.now.design.now.targets target.place)) blocking (operand sheet.now.design.now sheet.now.names.now value.place))) }
 {
     stmts.lower();
     let target = make_target(alloc, sheet, target)?;
     let value = put_operand(alloc, exprs, sheet, value)?;
     let node = VStmt::Assign {
         target,
-        at_once,
+        blocking,
         value,
     };
     add_stmt(exprs, stmts, node)
@@ -92,7 +92,7 @@ fn put_when(
     exprs: &mut Arena<VExpr>,
     stmts: &mut Arena<VStmt>,
     sheet: &Sheet,
-    at_once: bool,
+    blocking: bool,
     branch: &Branch,
     rest: &[StmtId],
     bound: usize,
@@ -105,18 +105,18 @@ fn put_when(
     requires rest { IsTrue (all_stmts_below bound rest.now) }
     requires plain_body { ArePlain (designs.block sheet.now.design.now branch.now.body) }
     requires plain_rest { ArePlain (designs.block sheet.now.design.now rest.now) }
-    ensures { IfOk result (λ i. PutStmt exprs.old exprs.new stmts.old stmts.new i.place (tree.When (operand sheet.now.design.now sheet.now.names.now branch.now.cond.place) (block_onto (stmt_text sheet.now.design.now sheet.now.names.now at_once) branch.now.body tree.EndBlock) (else_text (stmt_text sheet.now.design.now sheet.now.names.now at_once) rest.now))) }
+    ensures { IfOk result (λ i. PutStmt exprs.old exprs.new stmts.old stmts.new i.place (tree.When (operand sheet.now.design.now sheet.now.names.now branch.now.cond.place) (block_onto (stmt_text sheet.now.design.now sheet.now.names.now blocking) branch.now.body tree.EndBlock) (else_text (stmt_text sheet.now.design.now sheet.now.names.now blocking) rest.now))) }
 {
     let so = put_block(
         alloc,
         exprs,
         stmts,
         sheet,
-        at_once,
+        blocking,
         branch.body.as_slice(),
         bound,
     )?;
-    let other = put_else(alloc, exprs, stmts, sheet, at_once, rest, bound)?;
+    let other = put_else(alloc, exprs, stmts, sheet, blocking, rest, bound)?;
     stmts.lower();
     let cond = put_operand(alloc, exprs, sheet, branch.cond)?;
     add_stmt(exprs, stmts, VStmt::When { cond, so, other })
@@ -129,23 +129,23 @@ pub fn put_stmt(
     exprs: &mut Arena<VExpr>,
     stmts: &mut Arena<VStmt>,
     sheet: &Sheet,
-    at_once: bool,
+    blocking: bool,
     id: StmtId,
 ) -> Result<VStmtId, NoMemory>
     requires sheet { IsSheet sheet.now }
     requires placed { StmtsPlaced (length exprs.old) stmts.old }
     requires place { id.place < length sheet.now.design.now.stmts }
     requires plain { IsPlain (designs.stmt sheet.now.design.now id.place) }
-    ensures { IfOk result (λ i. PutStmt exprs.old exprs.new stmts.old stmts.new i.place (stmt_text sheet.now.design.now sheet.now.names.now at_once id.place)) }
+    ensures { IfOk result (λ i. PutStmt exprs.old exprs.new stmts.old stmts.new i.place (stmt_text sheet.now.design.now sheet.now.names.now blocking id.place)) }
 {
     match sheet.design.stmts.get(id) {
         Stmt::Assign { target, value, .. } => {
-            put_assign(alloc, exprs, stmts, sheet, at_once, *target, *value)
+            put_assign(alloc, exprs, stmts, sheet, blocking, *target, *value)
         }
         Stmt::If { branches, rest, .. } => {
             let branch = branches.at(0);
             let rest = rest.as_slice();
-            put_when(alloc, exprs, stmts, sheet, at_once, branch, rest, id.place)
+            put_when(alloc, exprs, stmts, sheet, blocking, branch, rest, id.place)
         }
         Stmt::Case { .. } => unreachable!(),
     }
@@ -158,7 +158,7 @@ fn put_else(
     exprs: &mut Arena<VExpr>,
     stmts: &mut Arena<VStmt>,
     sheet: &Sheet,
-    at_once: bool,
+    blocking: bool,
     ids: &[StmtId],
     bound: usize,
 ) -> Result<Option<List<VStmtId>>, NoMemory>
@@ -167,12 +167,12 @@ fn put_else(
     requires within { bound ≤ length sheet.now.design.now.stmts }
     requires below { IsTrue (all_stmts_below bound ids.now) }
     requires plain { ArePlain (designs.block sheet.now.design.now ids.now) }
-    ensures { IfOk result (λ list. PutElse exprs.old exprs.new stmts.old stmts.new list (else_text (stmt_text sheet.now.design.now sheet.now.names.now at_once) ids.now)) }
+    ensures { IfOk result (λ list. PutElse exprs.old exprs.new stmts.old stmts.new list (else_text (stmt_text sheet.now.design.now sheet.now.names.now blocking) ids.now)) }
 {
     if ids.is_empty() {
         return Ok(None);
     }
-    let list = put_block(alloc, exprs, stmts, sheet, at_once, ids, bound)?;
+    let list = put_block(alloc, exprs, stmts, sheet, blocking, ids, bound)?;
     Ok(Some(list))
 }
 
@@ -183,7 +183,7 @@ pub fn put_block(
     exprs: &mut Arena<VExpr>,
     stmts: &mut Arena<VStmt>,
     sheet: &Sheet,
-    at_once: bool,
+    blocking: bool,
     ids: &[StmtId],
     bound: usize,
 ) -> Result<List<VStmtId>, NoMemory>
@@ -192,10 +192,10 @@ pub fn put_block(
     requires within { bound ≤ length sheet.now.design.now.stmts }
     requires below { IsTrue (all_stmts_below bound ids.now) }
     requires plain { ArePlain (designs.block sheet.now.design.now ids.now) }
-    ensures { IfOk result (λ list. PutBlock exprs.old exprs.new stmts.old stmts.new list (block_onto (stmt_text sheet.now.design.now sheet.now.names.now at_once) ids.now tree.EndBlock)) }
+    ensures { IfOk result (λ list. PutBlock exprs.old exprs.new stmts.old stmts.new list (block_onto (stmt_text sheet.now.design.now sheet.now.names.now blocking) ids.now tree.EndBlock)) }
 {
     let list = List::new(alloc);
-    put_stmts(alloc, exprs, stmts, sheet, at_once, ids, bound, list)
+    put_stmts(alloc, exprs, stmts, sheet, blocking, ids, bound, list)
 }
 
 /// Adds statements, each for one signal and lower than `bound`, at the end of a block's list.
@@ -205,7 +205,7 @@ pub fn put_stmts(
     exprs: &mut Arena<VExpr>,
     stmts: &mut Arena<VStmt>,
     sheet: &Sheet,
-    at_once: bool,
+    blocking: bool,
     ids: &[StmtId],
     bound: usize,
     list: List<VStmtId>,
@@ -216,11 +216,11 @@ pub fn put_stmts(
     requires below { IsTrue (all_stmts_below bound ids.now) }
     requires plain { ArePlain (designs.block sheet.now.design.now ids.now) }
     requires there { IsTrue (are_stmts_below list (length stmts.old)) }
-    ensures { IfOk result (λ after. PutStmts exprs.old exprs.new stmts.old stmts.new list after (texts_of (stmt_text sheet.now.design.now sheet.now.names.now at_once) ids.now)) }
+    ensures { IfOk result (λ after. PutStmts exprs.old exprs.new stmts.old stmts.new list after (texts_of (stmt_text sheet.now.design.now sheet.now.names.now blocking) ids.now)) }
 {
     let mut after = list;
     for id in ids {
-        let stmt = put_stmt(alloc, exprs, stmts, sheet, at_once, *id)?;
+        let stmt = put_stmt(alloc, exprs, stmts, sheet, blocking, *id)?;
         after.push(stmt)?;
     }
     Ok(after)

@@ -5,7 +5,7 @@ use Rattle.lx_vtext.specs.declared.operators.BinOp.{BinOp}
 use Rattle.lx_vtext.specs.declared.operators.BinOp.TheVariants as op
 use Rattle.lx_vtext.specs.declared.operators.UnOp.{UnOp}
 use Rattle.lx_vtext.specs.declared.operators.UnOp.TheVariants.{Negate, Invert}
-use Rattle.lx_vtext.specs.Tree.{VExpr, VExprs, Net, Literal, Select, Word, Unary, Binary, Choose, Concat, Repeat, ToSigned, ToUnsigned, NoMore, More}
+use Rattle.lx_vtext.specs.Tree.{VExpr, VExprs, Net, Literal, PartSelect, Word, Unary, Binary, Conditional, Concatenation, Replication, ToSigned, ToUnsigned, NoMore, More}
 use Rattle.lx_vmeaning.specs.Meaning.{Sizes}
 use Rattle.lx_vmeaning.specs.Widths.{is_width, is_shift, is_comparison, left_context, right_context, own_width, widths_fit, all_widths_fit, right_fits}
 
@@ -14,13 +14,13 @@ abbrev mutual
   pub owns_fit : Sizes → VExpr → Bool
   owns_fit d (Net n) = is_width (own_width d (Net n))
   owns_fit d (Literal bits signed value) = is_width bits
-  owns_fit d (Select n hi lo) = is_width (own_width d (Select n hi lo))
+  owns_fit d (PartSelect n hi lo) = is_width (own_width d (PartSelect n hi lo))
   owns_fit d (Word n index) = is_width (own_width d (Word n index)) && owns_fit d index
   owns_fit d (Unary o a) = owns_fit d a
   owns_fit d (Binary a o b) = owns_fit d a && owns_fit d b
-  owns_fit d (Choose c a b) = owns_fit d c && (owns_fit d a && owns_fit d b)
-  owns_fit d (Concat a as_) = is_width (own_width d (Concat a as_)) && (owns_fit d a && all_owns_fit d as_)
-  owns_fit d (Repeat k a) = is_width (own_width d (Repeat k a)) && owns_fit d a
+  owns_fit d (Conditional c a b) = owns_fit d c && (owns_fit d a && owns_fit d b)
+  owns_fit d (Concatenation a as_) = is_width (own_width d (Concatenation a as_)) && (owns_fit d a && all_owns_fit d as_)
+  owns_fit d (Replication k a) = is_width (own_width d (Replication k a)) && owns_fit d a
   owns_fit d (ToSigned a) = owns_fit d a
   owns_fit d (ToUnsigned a) = owns_fit d a
 
@@ -80,18 +80,18 @@ unary_own d Invert a p = p
 pub own_fits : (d : Sizes) (e : VExpr) → owns_fit d e ≡ true → is_width (own_width d e) ≡ true
 own_fits d (Net n) h = h
 own_fits d (Literal bits signed value) h = h
-own_fits d (Select n hi lo) h = h
+own_fits d (PartSelect n hi lo) h = h
 own_fits d (Word n index) h = (and_parts (is_width (own_width d (Word n index))) (owns_fit d index) h).0
 own_fits d (Unary o a) h = unary_own d o a (own_fits d a h)
 own_fits d (Binary a o b) h =
     let p = and_parts (owns_fit d a) (owns_fit d b) h in
     binary_own d a o b (own_fits d a p.0) (own_fits d b p.1)
-own_fits d (Choose c a b) h =
+own_fits d (Conditional c a b) h =
     let p = and_parts (owns_fit d c) (owns_fit d a && owns_fit d b) h in
     let q = and_parts (owns_fit d a) (owns_fit d b) p.1 in
     width_max (own_width d a) (own_width d b) (own_fits d a q.0) (own_fits d b q.1)
-own_fits d (Concat a as_) h = (and_parts (is_width (own_width d (Concat a as_))) (owns_fit d a && all_owns_fit d as_) h).0
-own_fits d (Repeat k a) h = (and_parts (is_width (own_width d (Repeat k a))) (owns_fit d a) h).0
+own_fits d (Concatenation a as_) h = (and_parts (is_width (own_width d (Concatenation a as_))) (owns_fit d a && all_owns_fit d as_) h).0
+own_fits d (Replication k a) h = (and_parts (is_width (own_width d (Replication k a))) (owns_fit d a) h).0
 own_fits d (ToSigned a) h = own_fits d a h
 own_fits d (ToUnsigned a) h = own_fits d a h
 
@@ -103,7 +103,7 @@ mutual
   pub context_fits : (d : Sizes) (w : ℕ) (e : VExpr) → owns_fit d e ≡ true → is_width w ≡ true → widths_fit d w e ≡ true
   context_fits d w (Net n) h c = and_from (is_width (own_width d (Net n))) (is_width w) h c
   context_fits d w (Literal bits signed value) h c = and_from (is_width bits) (is_width w) h c
-  context_fits d w (Select n hi lo) h c = and_from (is_width (own_width d (Select n hi lo))) (is_width w) h c
+  context_fits d w (PartSelect n hi lo) h c = and_from (is_width (own_width d (PartSelect n hi lo))) (is_width w) h c
   context_fits d w (Word n index) h c =
       let p = and_parts (is_width (own_width d (Word n index))) (owns_fit d index) h in
       both_fit d w (Word n index) (widths_fit d (own_width d index) index) p.0 c (context_fits d (own_width d index) index p.1 (own_fits d index p.1))
@@ -117,21 +117,21 @@ mutual
       both_fit d w (Binary a o b) (widths_fit d (left_context o w n k) a && widths_fit d (right_context o w n k) b) (binary_own d a o b i j) c
       (and_from (widths_fit d (left_context o w n k) a) (widths_fit d (right_context o w n k) b)
       (context_fits d (left_context o w n k) a p.0 (left_fits o w n k c i j)) (context_fits d (right_context o w n k) b p.1 (amount_fits o w n k c i j)))
-  context_fits d w (Choose c a b) h f =
+  context_fits d w (Conditional c a b) h f =
       let p = and_parts (owns_fit d c) (owns_fit d a && owns_fit d b) h in
       let q = and_parts (owns_fit d a) (owns_fit d b) p.1 in
-      both_fit d w (Choose c a b) (widths_fit d (own_width d c) c && (widths_fit d w a && widths_fit d w b))
+      both_fit d w (Conditional c a b) (widths_fit d (own_width d c) c && (widths_fit d w a && widths_fit d w b))
       (width_max (own_width d a) (own_width d b) (own_fits d a q.0) (own_fits d b q.1)) f
       (and_from (widths_fit d (own_width d c) c) (widths_fit d w a && widths_fit d w b) (context_fits d (own_width d c) c p.0 (own_fits d c p.0))
       (and_from (widths_fit d w a) (widths_fit d w b) (context_fits d w a q.0 f) (context_fits d w b q.1 f)))
-  context_fits d w (Concat a as_) h c =
-      let p = and_parts (is_width (own_width d (Concat a as_))) (owns_fit d a && all_owns_fit d as_) h in
+  context_fits d w (Concatenation a as_) h c =
+      let p = and_parts (is_width (own_width d (Concatenation a as_))) (owns_fit d a && all_owns_fit d as_) h in
       let q = and_parts (owns_fit d a) (all_owns_fit d as_) p.1 in
-      both_fit d w (Concat a as_) (widths_fit d (own_width d a) a && all_widths_fit d as_) p.0 c
+      both_fit d w (Concatenation a as_) (widths_fit d (own_width d a) a && all_widths_fit d as_) p.0 c
       (and_from (widths_fit d (own_width d a) a) (all_widths_fit d as_) (context_fits d (own_width d a) a q.0 (own_fits d a q.0)) (parts_fit d as_ q.1))
-  context_fits d w (Repeat k a) h c =
-      let p = and_parts (is_width (own_width d (Repeat k a))) (owns_fit d a) h in
-      both_fit d w (Repeat k a) (widths_fit d (own_width d a) a) p.0 c (context_fits d (own_width d a) a p.1 (own_fits d a p.1))
+  context_fits d w (Replication k a) h c =
+      let p = and_parts (is_width (own_width d (Replication k a))) (owns_fit d a) h in
+      both_fit d w (Replication k a) (widths_fit d (own_width d a) a) p.0 c (context_fits d (own_width d a) a p.1 (own_fits d a p.1))
   context_fits d w (ToSigned a) h c = both_fit d w (ToSigned a) (widths_fit d (own_width d a) a) (own_fits d a h) c (context_fits d (own_width d a) a h (own_fits d a h))
   context_fits d w (ToUnsigned a) h c = both_fit d w (ToUnsigned a) (widths_fit d (own_width d a) a) (own_fits d a h) c (context_fits d (own_width d a) a h (own_fits d a h))
 

@@ -43,7 +43,7 @@ or_name None other = other
 
 abbrev mutual
   pub stmt_target : VStmt → Option Name
-  stmt_target (Assign t at_once e) = Some (target_name t)
+  stmt_target (Assign t blocking e) = Some (target_name t)
   stmt_target (When c so other) = or_name (block_target so) (else_target other)
 
   pub else_target : VElse → Option Name
@@ -57,7 +57,7 @@ abbrev mutual
 -- all assignments have one target, and `=` alone or `<=` alone
 abbrev mutual
   pub stmt_fits : Name → Bool → VStmt → Bool
-  stmt_fits n now (Assign t at_once e) = bytes_eq (target_name t) n && (if now then at_once else not at_once)
+  stmt_fits n now (Assign t blocking e) = bytes_eq (target_name t) n && (if now then blocking else not blocking)
   stmt_fits n now (When c so other) = block_fits n now so && else_fits n now other
 
   pub else_fits : Name → Bool → VElse → Bool
@@ -72,7 +72,7 @@ abbrev pub target_fits : Bool → Option Name → VBlock → Bool
 target_fits now None b = false
 target_fits now (Some n) b = block_fits n now b
 
--- the whole target from a literal, at once
+-- the whole target from a literal, by `=`
 abbrev pub begins_whole : VBlock → Bool
 begins_whole (InBlock (Assign (Whole n) true (Literal bits signed value)) ss) = true
 begins_whole _ = false

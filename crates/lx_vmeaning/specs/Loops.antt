@@ -1,7 +1,7 @@
 -- What nets depend on in the same moment: no net depends on itself.
 use Rattle.std.specs.Prelude.{◌≡◌, ℕ, Bool, true, false, ◌<◌, ◌||◌}
 use Rattle.std.specs.Str.{bytes_eq}
-use Rattle.lx_vtext.specs.Tree.{Name, VExpr, VExprs, Net, Literal, Select, Word, Unary, Binary, Choose, Concat, Repeat, ToSigned, ToUnsigned, NoMore, More, VStmt, Assign, When, VElse, NoElse, Else, VBlock, EndBlock, InBlock, VModule}
+use Rattle.lx_vtext.specs.Tree.{Name, VExpr, VExprs, Net, Literal, PartSelect, Word, Unary, Binary, Conditional, Concatenation, Replication, ToSigned, ToUnsigned, NoMore, More, VStmt, Assign, When, VElse, NoElse, Else, VBlock, EndBlock, InBlock, VModule}
 use Rattle.lx_vmeaning.specs.Runs.{Driver, Outside, ByAssign, ByBlock, Clocked, Nothing, driver}
 
 -- a net is named in an expression; a memory's word hangs on its index alone
@@ -9,13 +9,13 @@ abbrev mutual
   pub reads : Name → VExpr → Bool
   reads n (Net k) = bytes_eq k n
   reads n (Literal bits signed value) = false
-  reads n (Select k hi lo) = bytes_eq k n
+  reads n (PartSelect k hi lo) = bytes_eq k n
   reads n (Word k index) = reads n index
   reads n (Unary o a) = reads n a
   reads n (Binary a o b) = reads n a || reads n b
-  reads n (Choose c a b) = reads n c || (reads n a || reads n b)
-  reads n (Concat a as_) = reads n a || some_reads n as_
-  reads n (Repeat k a) = reads n a
+  reads n (Conditional c a b) = reads n c || (reads n a || reads n b)
+  reads n (Concatenation a as_) = reads n a || some_reads n as_
+  reads n (Replication k a) = reads n a
   reads n (ToSigned a) = reads n a
   reads n (ToUnsigned a) = reads n a
 
@@ -25,7 +25,7 @@ abbrev mutual
 
 abbrev mutual
   pub stmt_reads : Name → VStmt → Bool
-  stmt_reads n (Assign t at_once e) = reads n e
+  stmt_reads n (Assign t blocking e) = reads n e
   stmt_reads n (When c so other) = reads n c || (block_reads n so || else_reads n other)
 
   pub else_reads : Name → VElse → Bool

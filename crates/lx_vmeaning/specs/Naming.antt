@@ -3,7 +3,7 @@
 use Rattle.std.specs.Prelude.{ℕ, Bool, true, false, List, [], ◌∷◌, ◌++◌, Option, Some, None, nat_le, nat_lt, not, ◌&&◌, map, is_some, IsTrue}
 use Rattle.std.specs.List.{list_all, list_any}
 use Rattle.std.specs.Str.{bytes_eq}
-use Rattle.lx_vtext.specs.Tree.{Name, VExpr, VExprs, Net, Literal, Select, Word, Unary, Binary, Choose, Concat, Repeat, ToSigned, ToUnsigned, NoMore, More, VTarget, Whole, Part, WholeWord, PartWord, VStmt, Assign, When, VElse, NoElse, Else, VBlock, EndBlock, InBlock, VNet, VPort, VDecl, NetDecl, MemoryDecl, VSet, VAssign, VAlways, VModule}
+use Rattle.lx_vtext.specs.Tree.{Name, VExpr, VExprs, Net, Literal, PartSelect, Word, Unary, Binary, Conditional, Concatenation, Replication, ToSigned, ToUnsigned, NoMore, More, VTarget, Whole, Part, WholeWord, PartWord, VStmt, Assign, When, VElse, NoElse, Else, VBlock, EndBlock, InBlock, VNet, VPort, VDecl, NetDecl, MemoryDecl, VSet, VAssign, VAlways, VModule}
 use Rattle.lx_vmeaning.specs.Runs.{all_nets, decl_memories, net_named, memory_named, sizes}
 
 abbrev pub is_net : VModule → Name → Bool
@@ -43,13 +43,13 @@ abbrev mutual
   pub names_fit : VModule → VExpr → Bool
   names_fit m (Net n) = is_readable m n
   names_fit m (Literal bits signed value) = true
-  names_fit m (Select n hi lo) = is_readable m n && is_within m n hi lo
+  names_fit m (PartSelect n hi lo) = is_readable m n && is_within m n hi lo
   names_fit m (Word n index) = is_memory m n && names_fit m index
   names_fit m (Unary o a) = names_fit m a
   names_fit m (Binary a o b) = names_fit m a && names_fit m b
-  names_fit m (Choose c a b) = names_fit m c && (names_fit m a && names_fit m b)
-  names_fit m (Concat a as_) = names_fit m a && all_names_fit m as_
-  names_fit m (Repeat k a) = names_fit m a
+  names_fit m (Conditional c a b) = names_fit m c && (names_fit m a && names_fit m b)
+  names_fit m (Concatenation a as_) = names_fit m a && all_names_fit m as_
+  names_fit m (Replication k a) = names_fit m a
   names_fit m (ToSigned a) = names_fit m a
   names_fit m (ToUnsigned a) = names_fit m a
 
@@ -66,7 +66,7 @@ target_names m (PartWord n index hi lo) = is_memory m n && (is_within m n hi lo 
 
 abbrev mutual
   pub stmt_names : VModule → VStmt → Bool
-  stmt_names m (Assign t at_once e) = target_names m t && names_fit m e
+  stmt_names m (Assign t blocking e) = target_names m t && names_fit m e
   stmt_names m (When c so other) = names_fit m c && (block_names m so && else_names m other)
 
   pub else_names : VModule → VElse → Bool

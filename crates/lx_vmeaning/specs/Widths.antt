@@ -4,7 +4,7 @@ use Rattle.std.specs.Prelude.{ℕ, Bool, true, false, ◌+◌, ◌-◌, List, Op
 use Rattle.std.specs.List.{list_all}
 use Rattle.lx_vtext.specs.declared.operators.BinOp.{BinOp}
 use Rattle.lx_vtext.specs.declared.operators.BinOp.TheVariants as op
-use Rattle.lx_vtext.specs.Tree.{VExpr, VExprs, Net, Literal, Select, Word, Unary, Binary, Choose, Concat, Repeat, ToSigned, ToUnsigned, NoMore, More, VTarget, Whole, Part, WholeWord, PartWord, VStmt, Assign, When, VElse, NoElse, Else, VBlock, EndBlock, InBlock, VLiteral, VDecl, NetDecl, MemoryDecl, VSet, VAssign, VAlways, VModule}
+use Rattle.lx_vtext.specs.Tree.{VExpr, VExprs, Net, Literal, PartSelect, Word, Unary, Binary, Conditional, Concatenation, Replication, ToSigned, ToUnsigned, NoMore, More, VTarget, Whole, Part, WholeWord, PartWord, VStmt, Assign, When, VElse, NoElse, Else, VBlock, EndBlock, InBlock, VLiteral, VDecl, NetDecl, MemoryDecl, VSet, VAssign, VAlways, VModule}
 use Rattle.lx_vmeaning.specs.Meaning.{Sizes, meaning}
 use Rattle.lx_vmeaning.specs.Runs.{sizes}
 
@@ -50,15 +50,15 @@ abbrev mutual
   pub widths_fit : Sizes → ℕ → VExpr → Bool
   widths_fit d w (Net n) = has_widths d w (Net n)
   widths_fit d w (Literal bits signed value) = has_widths d w (Literal bits signed value)
-  widths_fit d w (Select n hi lo) = has_widths d w (Select n hi lo)
+  widths_fit d w (PartSelect n hi lo) = has_widths d w (PartSelect n hi lo)
   widths_fit d w (Word n index) = has_widths d w (Word n index) && widths_fit d (own_width d index) index
   widths_fit d w (Unary o a) = has_widths d w (Unary o a) && widths_fit d w a
   widths_fit d w (Binary a o b) =
       has_widths d w (Binary a o b)
       && (widths_fit d (left_context o w (own_width d a) (own_width d b)) a && widths_fit d (right_context o w (own_width d a) (own_width d b)) b)
-  widths_fit d w (Choose c a b) = has_widths d w (Choose c a b) && (widths_fit d (own_width d c) c && (widths_fit d w a && widths_fit d w b))
-  widths_fit d w (Concat a as_) = has_widths d w (Concat a as_) && (widths_fit d (own_width d a) a && all_widths_fit d as_)
-  widths_fit d w (Repeat k a) = has_widths d w (Repeat k a) && widths_fit d (own_width d a) a
+  widths_fit d w (Conditional c a b) = has_widths d w (Conditional c a b) && (widths_fit d (own_width d c) c && (widths_fit d w a && widths_fit d w b))
+  widths_fit d w (Concatenation a as_) = has_widths d w (Concatenation a as_) && (widths_fit d (own_width d a) a && all_widths_fit d as_)
+  widths_fit d w (Replication k a) = has_widths d w (Replication k a) && widths_fit d (own_width d a) a
   widths_fit d w (ToSigned a) = has_widths d w (ToSigned a) && widths_fit d (own_width d a) a
   widths_fit d w (ToUnsigned a) = has_widths d w (ToUnsigned a) && widths_fit d (own_width d a) a
 
@@ -89,7 +89,7 @@ target_widths d (PartWord n index hi lo) = alone_fits d index
 
 abbrev mutual
   pub stmt_widths : Sizes → VStmt → Bool
-  stmt_widths d (Assign t at_once e) = target_widths d t && right_fits d (target_bits d t) e
+  stmt_widths d (Assign t blocking e) = target_widths d t && right_fits d (target_bits d t) e
   stmt_widths d (When c so other) = alone_fits d c && (block_widths d so && else_widths d other)
 
   pub else_widths : Sizes → VElse → Bool

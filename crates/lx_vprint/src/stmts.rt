@@ -47,10 +47,10 @@ pub fn put_target(out: &mut Text, exprs: &Arena<VExpr>, target: &VTarget) -> Res
     Ok(())
 }
 
-fn sign(at_once: bool) -> &'static [u8]
-    ensures { result.now ≡ sets_text at_once }
+fn sign(blocking: bool) -> &'static [u8]
+    ensures { result.now ≡ sets_text blocking }
 {
-    if at_once { b" = " } else { b" <= " }
+    if blocking { b" = " } else { b" <= " }
 }
 
 // `target = value;`, or `target <= value;`
@@ -59,16 +59,16 @@ fn put_assignment(
     exprs: &Arena<VExpr>,
     levels: u128,
     target: &VTarget,
-    at_once: bool,
+    blocking: bool,
     value: ExprId,
 ) -> Result<(), NoMemory>
     requires target { IsTrue (is_target_placed (length exprs.now) target.now) }
     requires value { value.place < length exprs.now }
-    ensures { OnOk result (out.new ≡ out.old ++ stmt_text levels (tree.Assign (plant_target (tree_at exprs.now) target.now) at_once (tree_at exprs.now value.place))) }
+    ensures { OnOk result (out.new ≡ out.old ++ stmt_text levels (tree.Assign (plant_target (tree_at exprs.now) target.now) blocking (tree_at exprs.now value.place))) }
 {
     margin(out, levels)?;
     put_target(out, exprs, target)?;
-    out.word(sign(at_once))?;
+    out.word(sign(blocking))?;
     put_expr(out, exprs, value)?;
     out.word(b";\n")?;
     Ok(())
@@ -103,10 +103,10 @@ pub fn put_stmt(
     match stmt(exprs, stmts, id) {
         VStmt::Assign {
             target,
-            at_once,
+            blocking,
             value,
         } => {
-            put_assignment(out, exprs, levels, target, *at_once, *value)?;
+            put_assignment(out, exprs, levels, target, *blocking, *value)?;
         }
         VStmt::When { cond, so, other } => {
             put_if(out, exprs, levels, *cond)?;

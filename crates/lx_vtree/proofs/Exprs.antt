@@ -23,16 +23,16 @@ plants_same f g n (id ∷ ids) b s = let h = both _ _ b in rw (s id.place (ltb-t
 pub plant_same : (f g : ℕ → tree.VExpr) (n : ℕ) (e : VExpr) → is_below e n ≡ true → Same f g n → plant f e ≡ plant g e
 plant_same f g n (node.Net name) b s = refl
 plant_same f g n (node.Literal l) b s = refl
-plant_same f g n (node.Select name hi lo) b s = refl
+plant_same f g n (node.PartSelect name hi lo) b s = refl
 plant_same f g n (node.Word name index) b s = rw (s index.place (ltb-true _ _ b)) refl
 plant_same f g n (node.Unary op of) b s = rw (s of.place (ltb-true _ _ b)) refl
 plant_same f g n (node.Binary left op right) b s = let h = both _ _ b in rw (s left.place (ltb-true _ _ h.0), s right.place (ltb-true _ _ h.1)) refl
-plant_same f g n (node.Choose c so other) b s =
+plant_same f g n (node.Conditional c so other) b s =
     let h = both _ _ b in
     let k = both _ _ h.0 in
     rw (s c.place (ltb-true _ _ k.0), s so.place (ltb-true _ _ k.1), s other.place (ltb-true _ _ h.1)) refl
-plant_same f g n (node.Concat first more) b s = let h = both _ _ b in rw (s first.place (ltb-true _ _ h.0), plants_same f g n more h.1 s) refl
-plant_same f g n (node.Repeat count of) b s = rw (s of.place (ltb-true _ _ b)) refl
+plant_same f g n (node.Concatenation first more) b s = let h = both _ _ b in rw (s first.place (ltb-true _ _ h.0), plants_same f g n more h.1 s) refl
+plant_same f g n (node.Replication count of) b s = rw (s of.place (ltb-true _ _ b)) refl
 plant_same f g n (node.ToSigned of) b s = rw (s of.place (ltb-true _ _ b)) refl
 plant_same f g n (node.ToUnsigned of) b s = rw (s of.place (ltb-true _ _ b)) refl
 

@@ -26,7 +26,7 @@ else_same g h n (Some ids) b s = rw (block_same g h n ids b s) refl
 
 -- the same, by the statements inside
 pub plant_stmt_same : (f : ℕ → tree.VExpr) (g h : ℕ → tree.VStmt) (n : ℕ) (s : VStmt) → is_stmt_below s n ≡ true → Same g h n → plant_stmt f g s ≡ plant_stmt f h s
-plant_stmt_same f g h n (stmt.Assign t at_once e) b s = refl
+plant_stmt_same f g h n (stmt.Assign t blocking e) b s = refl
 plant_stmt_same f g h n (stmt.When c so other) b s = let k = both _ _ b in rw (block_same g h n so k.0 s, else_same g h n other k.1 s) refl
 
 some_same : (f : ℕ → tree.VExpr) (g h : ℕ → tree.VStmt) (id : ℕ) (o : Option VStmt) → IfSome o (λ s. IsTrue (is_stmt_below s id)) → Same g h id → plant_some_stmt f g o ≡ plant_some_stmt f h o
@@ -78,7 +78,7 @@ target_stays f g n (target.WholeWord name index) b s = rw (s index.place (ltb-tr
 target_stays f g n (target.PartWord name index hi lo) b s = rw (s index.place (ltb-true _ _ b)) refl
 
 plant_stays : (f g : ℕ → tree.VExpr) (h : ℕ → tree.VStmt) (n : ℕ) (s : VStmt) → is_stmt_placed n s ≡ true → Same f g n → plant_stmt f h s ≡ plant_stmt g h s
-plant_stays f g h n (stmt.Assign t at_once e) b s = let k = both _ _ b in rw (target_stays f g n t k.0 s, s e.place (ltb-true _ _ k.1)) refl
+plant_stays f g h n (stmt.Assign t blocking e) b s = let k = both _ _ b in rw (target_stays f g n t k.0 s, s e.place (ltb-true _ _ k.1)) refl
 plant_stays f g h n (stmt.When c so other) b s = rw (s c.place (ltb-true _ _ b)) refl
 
 cases_stay : (f g : ℕ → tree.VExpr) (h k : ℕ → tree.VStmt) (n id : ℕ) (o : Option VStmt) → IfSome o (λ s. IsTrue (is_stmt_placed n s)) → IfSome o (λ s. IsTrue (is_stmt_below s id)) → Same f g n → Same h k id → plant_some_stmt f h o ≡ plant_some_stmt g k o
@@ -111,7 +111,7 @@ target_wider n m (target.WholeWord name index) le b = let l = ltb-true index.pla
 target_wider n m (target.PartWord name index hi lo) le b = let l = ltb-true index.place n b in lt-ltb index.place m (omega arith)
 
 placed_wider : (n m : ℕ) (s : VStmt) → n ≤ m → is_stmt_placed n s ≡ true → is_stmt_placed m s ≡ true
-placed_wider n m (stmt.Assign t at_once e) le b =
+placed_wider n m (stmt.Assign t blocking e) le b =
     let k = both _ _ b in
     let l = ltb-true e.place n k.1 in
     rw (target_wider n m t le k.0, lt-ltb e.place m (omega arith)) refl

@@ -28,7 +28,7 @@ plant_else g (Some ids) = tree.Else (plant_block g ids)
 
 -- f gives the trees of expressions, and g those of the statements inside
 abbrev pub plant_stmt : (ℕ → tree.VExpr) → (ℕ → tree.VStmt) → VStmt → tree.VStmt
-plant_stmt f g (stmt.Assign t at_once e) = tree.Assign (plant_target f t) at_once (f e.place)
+plant_stmt f g (stmt.Assign t blocking e) = tree.Assign (plant_target f t) blocking (f e.place)
 plant_stmt f g (stmt.When c so other) = tree.When (f c.place) (plant_block g so) (plant_else g other)
 
 -- where there is no node, a tree that has no text
@@ -59,7 +59,7 @@ is_else_below (Some ids) n = are_stmts_below ids n
 
 -- all statements inside stand at places lower than n
 abbrev pub is_stmt_below : VStmt → ℕ → Bool
-is_stmt_below (stmt.Assign t at_once e) n = true
+is_stmt_below (stmt.Assign t blocking e) n = true
 is_stmt_below (stmt.When c so other) n = are_stmts_below so n && is_else_below other n
 
 abbrev pub is_target_placed : ℕ → VTarget → Bool
@@ -70,7 +70,7 @@ is_target_placed n (target.PartWord name index hi lo) = nat_lt index.place n
 
 -- all its expressions stand at places lower than n
 abbrev pub is_stmt_placed : ℕ → VStmt → Bool
-is_stmt_placed n (stmt.Assign t at_once e) = is_target_placed n t && nat_lt e.place n
+is_stmt_placed n (stmt.Assign t blocking e) = is_target_placed n t && nat_lt e.place n
 is_stmt_placed n (stmt.When c so other) = nat_lt c.place n
 
 -- all expressions of the statements stand at places lower than n

@@ -13,13 +13,13 @@ plants f (id ∷ ids) = tree.More (f id.place) (plants f ids)
 abbrev pub plant : (ℕ → tree.VExpr) → VExpr → tree.VExpr
 plant f (node.Net name) = tree.Net name
 plant f (node.Literal l) = tree.Literal l.bits l.signed l.value
-plant f (node.Select name hi lo) = tree.Select name hi lo
+plant f (node.PartSelect name hi lo) = tree.PartSelect name hi lo
 plant f (node.Word name index) = tree.Word name (f index.place)
 plant f (node.Unary op of) = tree.Unary op (f of.place)
 plant f (node.Binary left op right) = tree.Binary (f left.place) op (f right.place)
-plant f (node.Choose c so other) = tree.Choose (f c.place) (f so.place) (f other.place)
-plant f (node.Concat first more) = tree.Concat (f first.place) (plants f more)
-plant f (node.Repeat count of) = tree.Repeat count (f of.place)
+plant f (node.Conditional c so other) = tree.Conditional (f c.place) (f so.place) (f other.place)
+plant f (node.Concatenation first more) = tree.Concatenation (f first.place) (plants f more)
+plant f (node.Replication count of) = tree.Replication count (f of.place)
 plant f (node.ToSigned of) = tree.ToSigned (f of.place)
 plant f (node.ToUnsigned of) = tree.ToUnsigned (f of.place)
 
