@@ -17,7 +17,7 @@ use Rattle.lx_fhdl.specs.declared.exprs.SigId.{SigId}
 use Rattle.lx_fhdl.specs.declared.design.SyncPart.{SyncPart}
 use Rattle.lx_fhdl.specs.declared.design.Design.{Design}
 use Rattle.lx_emission.specs.Naming.{net, NamesFit}
-use Rattle.lx_emission.specs.Signals.{Combined, Clocked, own, drive, domain_reset, reset_block, reset_text, combined_body, clocked_body}
+use Rattle.lx_emission.specs.Signals.{CombBlock, Sync, own, drive, domain_reset, reset_block, reset_text, comb_body, sync_body}
 use Rattle.lx_emission.specs.Texts.{block_onto, else_text, stmt_text}
 use Rattle.lx_emission.proofs.Setting.{OperandsAreLawful}
 use Rattle.lx_emission.proofs.Blocks.{Bits, AllBits, SomeBits, bits_text, text_holds, by_choice, combined_list, combined_own, clocked_list, clocked_own, reset_within}
@@ -100,7 +100,7 @@ reset_lawful d names x name reset (Some r) reads =
 
 -- the block of `always @(*)` for x
 pub combined_lawful : (d : Design) (names : List Name) (x : ℕ) → Keeps d → IsLowered d → OperandsAreLawful d names → NamesFit d names → x < length d.signals → ((b : ℕ) → IsExpr b (reset_text d x))
-    → (ids : List StmtId) → drive d x ≡ Combined ids → IsBlock 128 (combined_body d names x ids)
+    → (ids : List StmtId) → drive d x ≡ CombBlock ids → IsBlock 128 (comb_body d names x ids)
 combined_lawful d names x keeps low operands fit lt reset ids e =
     let list = combined_own d x ids keeps low e in
     let name = net_lawful d names fit x lt in
@@ -109,7 +109,7 @@ combined_lawful d names x keeps low operands fit lt reset ids e =
 
 -- and the clocked block
 pub clocked_lawful : (d : Design) (names : List Name) (x : ℕ) → Keeps d → IsLowered d → OperandsAreLawful d names → NamesFit d names → x < length d.signals → ((b : ℕ) → IsExpr b (reset_text d x))
-    → (k : ℕ) (ids : List StmtId) → drive d x ≡ Clocked k ids → IsBlock 128 (clocked_body d names x k ids)
+    → (k : ℕ) (ids : List StmtId) → drive d x ≡ Sync k ids → IsBlock 128 (sync_body d names x k ids)
 clocked_lawful d names x keeps low operands fit lt reset k ids e =
     let list = clocked_own d x k ids keeps low e in
     let name = net_lawful d names fit x lt in

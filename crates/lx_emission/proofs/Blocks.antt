@@ -6,7 +6,8 @@ use Rattle.std.proofs.lemmas.Bool.{and_parts, eqb-true, le-leb, lt-ltb}
 use Rattle.std.proofs.lemmas.Option.{slice_get_within}
 use Rattle.std.proofs.lemmas.Slice.Eq.{bytes_eq-Decides}
 use Rattle.lx_circuit.specs.Statements as tree
-use Rattle.lx_circuit.specs.Circuit.{Role, Input, Comb, Sync, Undriven, is_among, is_some_reset, sync_role, idle_role, role, made, nothing}
+use Rattle.lx_circuit.specs.Circuit as circuit
+use Rattle.lx_circuit.specs.Circuit.{Role, is_among, is_some_reset, sync_role, idle_role, role, made, nothing}
 use Rattle.lx_vtext.specs.Tree.{Name, VExpr, Net, Whole, Part, VTarget, VStmt, Assign, When, NoElse, VBlock, EndBlock, InBlock, VModule}
 use Rattle.lx_vmeaning.specs.Runs.{sizes, target_name, sets_stmt, sets_else, sets_block}
 use Rattle.lx_vmeaning.specs.Cycle.{is_net, is_input, is_readable, is_register, is_within, is_width, expr_fits, target_body_fits, always_fits, target_fits, stmt_fits, else_fits, block_fits, or_name, stmt_target, else_target, block_target}
@@ -27,7 +28,7 @@ use Rattle.lx_fhdl.specs.declared.stmts.Stmt.TheVariants as statement
 use Rattle.lx_fhdl.specs.declared.design.Design.{Design}
 use Rattle.lx_emission.specs.Naming.{net, clock}
 use Rattle.lx_emission.specs.Nodes.{operand}
-use Rattle.lx_emission.specs.Signals.{Drive, Given, Held, Equal, Combined, Clocked, own, single, combined, drive_by, drive, domain_reset, reset_block, reset_text, combined_body, clocked_body}
+use Rattle.lx_emission.specs.Signals.{Drive, Input, Undriven, CombAssign, CombBlock, Sync, own, single, comb_drive, drive_by, drive, domain_reset, reset_block, reset_text, comb_body, sync_body}
 use Rattle.lx_emission.specs.Texts.{covers, target_text, block_onto, else_text, stmt_text_of, stmt_text_within, stmt_text}
 use Rattle.lx_emission.proofs.Setting.{LetsRead, OperandsFit, SetsAlone, BlocksSetAlone}
 
@@ -343,73 +344,73 @@ pub record IsOwnList (d : Design) (x : ℕ) (ids : List StmtId) : Type 0 where
 own_list : (d : Design) (x : ℕ) (ids : List StmtId) → all_stmts_below (length d.stmts) ids ≡ true → ArePlain (block d ids) → IsOwnList d x (own d x ids)
 own_list d x ids below plain = record { below = own_below d x (length d.stmts) ids below; plain = own_for d x ids plain }
 
-combined_is : (ids js : List StmtId) (o : Option ExprId) → combined ids o ≡ Combined js → js ≡ ids
+combined_is : (ids js : List StmtId) (o : Option ExprId) → comb_drive ids o ≡ CombBlock js → js ≡ ids
 combined_is ids js None e = cc
 combined_is ids js (Some value) e = absurd (cc)
 
-by_combined : (d : Design) (x : ℕ) (ids : List StmtId) (r : Role) → drive_by d x r ≡ Combined ids → ids ≡ own d x d.comb
-by_combined d x ids Input e = absurd (cc)
-by_combined d x ids Undriven e = absurd (cc)
-by_combined d x ids Comb e = combined_is (own d x d.comb) ids (single d (own d x d.comb)) e
-by_combined d x ids (Sync k) e = absurd (cc)
+by_combined : (d : Design) (x : ℕ) (ids : List StmtId) (r : Role) → drive_by d x r ≡ CombBlock ids → ids ≡ own d x d.comb
+by_combined d x ids circuit.Input e = absurd (cc)
+by_combined d x ids circuit.Undriven e = absurd (cc)
+by_combined d x ids circuit.Comb e = combined_is (own d x d.comb) ids (single d (own d x d.comb)) e
+by_combined d x ids (circuit.Sync k) e = absurd (cc)
 
 -- the block of `always @(*)` has the statements of the list of the design
-pub combined_list : (d : Design) (x : ℕ) (ids : List StmtId) → drive d x ≡ Combined ids → ids ≡ own d x d.comb
+pub combined_list : (d : Design) (x : ℕ) (ids : List StmtId) → drive d x ≡ CombBlock ids → ids ≡ own d x d.comb
 unfolding drive
 combined_list d x ids e = by_combined d x ids (role (circuit_of d) x) e
 
-pub combined_own : (d : Design) (x : ℕ) (ids : List StmtId) → Keeps d → IsLowered d → drive d x ≡ Combined ids → IsOwnList d x ids
+pub combined_own : (d : Design) (x : ℕ) (ids : List StmtId) → Keeps d → IsLowered d → drive d x ≡ CombBlock ids → IsOwnList d x ids
 combined_own d x ids keeps low e =
     subst (λ ks. IsOwnList d x ks) (sym (combined_list d x ids e)) (own_list d x d.comb keeps.comb.there low.comb)
 
-sync_drives : (d : Design) (x j k : ℕ) (ds : List Domain) (other : Role) → (other ≡ Sync k → ⊥) → sync_role x j (domains_from d j ds) other ≡ Sync k → tree.drives_block x (block d (stmts_of k d.sync)) ≡ true
+sync_drives : (d : Design) (x j k : ℕ) (ds : List Domain) (other : Role) → (other ≡ circuit.Sync k → ⊥) → sync_role x j (domains_from d j ds) other ≡ circuit.Sync k → tree.drives_block x (block d (stmts_of k d.sync)) ≡ true
 sync_drives d x j k [] other idle e = absurd (idle e)
 sync_drives d x j k (y ∷ ys) other idle e =
-    by_choice (λ r. r ≡ Sync k → tree.drives_block x (block d (stmts_of k d.sync)) ≡ true) (tree.drives_block x (block d (stmts_of j d.sync))) (Sync j) (sync_role x (j + 1) (domains_from d (j + 1) ys) other)
+    by_choice (λ r. r ≡ circuit.Sync k → tree.drives_block x (block d (stmts_of k d.sync)) ≡ true) (tree.drives_block x (block d (stmts_of j d.sync))) (circuit.Sync j) (sync_role x (j + 1) (domains_from d (j + 1) ys) other)
     (λ h f. let same : j ≡ k = cc in subst (λ i. tree.drives_block x (block d (stmts_of i d.sync)) ≡ true) same h)
     (λ h f. sync_drives d x (j + 1) k ys other idle f)
     e
 
-idle_alone : (b : Bool) (k : ℕ) → (if b then Input else Undriven) ≡ Sync k → ⊥
+idle_alone : (b : Bool) (k : ℕ) → (if b then circuit.Input else circuit.Undriven) ≡ circuit.Sync k → ⊥
 idle_alone true k e = cc
 idle_alone false k e = cc
 
-role_drives : (d : Design) (x k : ℕ) (b : Bool) → (if b then Comb else sync_role x 0 (circuit_of d).domains (idle_role (circuit_of d) x)) ≡ Sync k → tree.drives_block x (block d (stmts_of k d.sync)) ≡ true
+role_drives : (d : Design) (x k : ℕ) (b : Bool) → (if b then circuit.Comb else sync_role x 0 (circuit_of d).domains (idle_role (circuit_of d) x)) ≡ circuit.Sync k → tree.drives_block x (block d (stmts_of k d.sync)) ≡ true
 unfolding circuit_of
 role_drives d x k true e = absurd (cc)
 role_drives d x k false e = sync_drives d x 0 k d.domains (idle_role (circuit_of d) x) (idle_alone (is_among x (circuit_of d).ios || is_some_reset x (circuit_of d).domains) k) e
 
 record IsClocked (d : Design) (x k : ℕ) (ids : List StmtId) (r : Role) : Type 0 where
   same : ids ≡ own d x (stmts_of k d.sync)
-  role : r ≡ Sync k
+  role : r ≡ circuit.Sync k
 
-by_clocked : (d : Design) (x k : ℕ) (ids : List StmtId) (r : Role) → drive_by d x r ≡ Clocked k ids → IsClocked d x k ids r
-by_clocked d x k ids Input e = absurd (cc)
-by_clocked d x k ids Undriven e = absurd (cc)
-by_clocked d x k ids Comb e = absurd (not_clocked (own d x d.comb) (single d (own d x d.comb)) e)
+by_clocked : (d : Design) (x k : ℕ) (ids : List StmtId) (r : Role) → drive_by d x r ≡ Sync k ids → IsClocked d x k ids r
+by_clocked d x k ids circuit.Input e = absurd (cc)
+by_clocked d x k ids circuit.Undriven e = absurd (cc)
+by_clocked d x k ids circuit.Comb e = absurd (not_clocked (own d x d.comb) (single d (own d x d.comb)) e)
   where
-    not_clocked : (js : List StmtId) (o : Option ExprId) → combined js o ≡ Clocked k ids → ⊥
+    not_clocked : (js : List StmtId) (o : Option ExprId) → comb_drive js o ≡ Sync k ids → ⊥
     not_clocked js None e = cc
     not_clocked js (Some value) e = cc
-by_clocked d x k ids (Sync j) e =
+by_clocked d x k ids (circuit.Sync j) e =
     let domain : j ≡ k = cc in
     let list : own d x (stmts_of j d.sync) ≡ ids = cc in
-    record { same = sym list ∙ ap (λ i. own d x (stmts_of i d.sync)) domain; role = ap Sync domain }
+    record { same = sym list ∙ ap (λ i. own d x (stmts_of i d.sync)) domain; role = ap circuit.Sync domain }
 
 -- a clocked block has the statements of its domain's list
-pub clocked_list : (d : Design) (x k : ℕ) (ids : List StmtId) → drive d x ≡ Clocked k ids → ids ≡ own d x (stmts_of k d.sync)
+pub clocked_list : (d : Design) (x k : ℕ) (ids : List StmtId) → drive d x ≡ Sync k ids → ids ≡ own d x (stmts_of k d.sync)
 unfolding drive
 clocked_list d x k ids e = (by_clocked d x k ids (role (circuit_of d) x) e).same
 
-clocked_drives : (d : Design) (x k : ℕ) (ids : List StmtId) → drive d x ≡ Clocked k ids → tree.drives_block x (block d (stmts_of k d.sync)) ≡ true
+clocked_drives : (d : Design) (x k : ℕ) (ids : List StmtId) → drive d x ≡ Sync k ids → tree.drives_block x (block d (stmts_of k d.sync)) ≡ true
 unfolding drive
 clocked_drives d x k ids e = role_drives d x k (tree.drives_block x (circuit_of d).comb) (by_clocked d x k ids (role (circuit_of d) x) e).role
 
-pub clocked_own : (d : Design) (x k : ℕ) (ids : List StmtId) → Keeps d → IsLowered d → drive d x ≡ Clocked k ids → IsOwnList d x ids
+pub clocked_own : (d : Design) (x k : ℕ) (ids : List StmtId) → Keeps d → IsLowered d → drive d x ≡ Sync k ids → IsOwnList d x ids
 clocked_own d x k ids keeps low e =
     subst (λ ks. IsOwnList d x ks) (sym (clocked_list d x k ids e)) (own_list d x (stmts_of k d.sync) (sync_below d k d.sync keeps.sync) (sync_plain d k d.sync low.sync))
 
-pub clocked_some : (d : Design) (x k : ℕ) (ids : List StmtId) → drive d x ≡ Clocked k ids → 0 < length ids
+pub clocked_some : (d : Design) (x k : ℕ) (ids : List StmtId) → drive d x ≡ Sync k ids → 0 < length ids
 clocked_some d x k ids e = subst (λ (ks : List StmtId). 0 < length ks) (sym (clocked_list d x k ids e)) (own_some d x (stmts_of k d.sync) (clocked_drives d x k ids e))
 
 -- ---- the reset of a domain
@@ -468,21 +469,21 @@ reset_sets d names x n (Some r) e =
     EndBlock (InBlock (When (Net (net names r.0)) (InBlock (Assign (Whole (net names x)) false (reset_text d x)) EndBlock) NoElse) EndBlock)
     (λ h f. absurd (cc)) (λ h f. only_sets (bytes_eq (net names x) n) f) e
 
-combined_sets : (d : Design) (names : List Name) (x : ℕ) (ids : List StmtId) → Keeps d → IsOwnList d x ids → (n : Name) → sets_block n (combined_body d names x ids) ≡ bytes_eq (net names x) n
+combined_sets : (d : Design) (names : List Name) (x : ℕ) (ids : List StmtId) → Keeps d → IsOwnList d x ids → (n : Name) → sets_block n (comb_body d names x ids) ≡ bytes_eq (net names x) n
 combined_sets d names x ids keeps own n =
     or_same (bytes_eq (net names x) n) (sets_block n (block_onto (stmt_text d names true) ids EndBlock))
     (sets_only x n (bytes_eq (net names x) n) (stmt d) (stmt_text d names true) (stmt_sets d names true x keeps n) ids own.plain EndBlock (λ e. absurd (cc)))
 
-clocked_sets : (d : Design) (names : List Name) (x k : ℕ) (ids : List StmtId) → Keeps d → IsOwnList d x ids → 0 < length ids → (n : Name) → sets_block n (clocked_body d names x k ids) ≡ bytes_eq (net names x) n
+clocked_sets : (d : Design) (names : List Name) (x k : ℕ) (ids : List StmtId) → Keeps d → IsOwnList d x ids → 0 < length ids → (n : Name) → sets_block n (sync_body d names x k ids) ≡ bytes_eq (net names x) n
 clocked_sets d names x k ids keeps own some n =
     sets_text d names false x keeps ids own.below own.plain some (reset_block d names x (domain_reset (slice_get d.domains k))) n (reset_sets d names x n (domain_reset (slice_get d.domains k)))
 
 sets_alone : (d : Design) (names : List Name) (x : ℕ) → Keeps d → IsLowered d → (r : Drive) → drive d x ≡ r → SetsAlone d names x r
-sets_alone d names x keeps low Given e = tt
-sets_alone d names x keeps low Held e = tt
-sets_alone d names x keeps low (Equal value) e = tt
-sets_alone d names x keeps low (Combined ids) e = combined_sets d names x ids keeps (combined_own d x ids keeps low e)
-sets_alone d names x keeps low (Clocked k ids) e = clocked_sets d names x k ids keeps (clocked_own d x k ids keeps low e) (clocked_some d x k ids e)
+sets_alone d names x keeps low Input e = tt
+sets_alone d names x keeps low Undriven e = tt
+sets_alone d names x keeps low (CombAssign value) e = tt
+sets_alone d names x keeps low (CombBlock ids) e = combined_sets d names x ids keeps (combined_own d x ids keeps low e)
+sets_alone d names x keeps low (Sync k ids) e = clocked_sets d names x k ids keeps (clocked_own d x k ids keeps low e) (clocked_some d x k ids e)
 
 -- the block of each signal assigns its net alone
 pub blocks_set_alone : (d : Design) (names : List Name) → Keeps d → IsLowered d → BlocksSetAlone d names
@@ -498,7 +499,7 @@ reset_fits d names m x register reset (Some r) reads =
 
 -- the block of `always @(*)` for x may stand in the module
 pub combined_fits : (d : Design) (names : List Name) (m : VModule) (x : ℕ) → Keeps d → IsLowered d → LetsRead d names m → OperandsFit d names m → is_register m (net names x) ≡ true → x < length d.signals → expr_fits m (reset_text d x) ≡ true
-    → (ids : List StmtId) → drive d x ≡ Combined ids → always_fits m (record { clock = None; body = combined_body d names x ids }) ≡ true
+    → (ids : List StmtId) → drive d x ≡ CombBlock ids → always_fits m (record { clock = None; body = comb_body d names x ids }) ≡ true
 combined_fits d names m x keeps low lets operands register lt reset ids e =
     let own = combined_own d x ids keeps low e in
     let rest = text_fits d names m true x keeps lets operands register lt ids own.below own.plain EndBlock refl in
@@ -506,13 +507,13 @@ combined_fits d names m x keeps low lets operands register lt reset ids e =
 
 -- so may the clocked block for x
 pub clocked_fits : (d : Design) (names : List Name) (m : VModule) (x : ℕ) → Keeps d → IsLowered d → LetsRead d names m → OperandsFit d names m → is_register m (net names x) ≡ true → x < length d.signals → expr_fits m (reset_text d x) ≡ true
-    → (k : ℕ) (ids : List StmtId) → drive d x ≡ Clocked k ids → is_net m (clock d k) ≡ true → is_input (clock d k) m.ports ≡ true → always_fits m (record { clock = Some (clock d k); body = clocked_body d names x k ids }) ≡ true
+    → (k : ℕ) (ids : List StmtId) → drive d x ≡ Sync k ids → is_net m (clock d k) ≡ true → is_input (clock d k) m.ports ≡ true → always_fits m (record { clock = Some (clock d k); body = sync_body d names x k ids }) ≡ true
 clocked_fits d names m x keeps low lets operands register lt reset k ids e net_there input =
     let own = clocked_own d x k ids keeps low e in
     let end = reset_block d names x (domain_reset (slice_get d.domains k)) in
     let last = reset_fits d names m x register reset (domain_reset (slice_get d.domains k)) (λ r h. signal_fits d names m keeps lets r.0 (reset_within d keeps k r h)) in
     let target = text_target d names false x keeps ids own.below own.plain (clocked_some d x k ids e) end in
     let rest = text_fits d names m false x keeps lets operands register lt ids own.below own.plain end last in
-    all_true (is_net m (clock d k) && is_input (clock d k) m.ports) (target_body_fits m false (block_target (clocked_body d names x k ids)) (clocked_body d names x k ids))
+    all_true (is_net m (clock d k) && is_input (clock d k) m.ports) (target_body_fits m false (block_target (sync_body d names x k ids)) (sync_body d names x k ids))
     (all_true (is_net m (clock d k)) (is_input (clock d k) m.ports) net_there input)
-    (subst (λ o. target_body_fits m false o (clocked_body d names x k ids) ≡ true) (sym target) rest)
+    (subst (λ o. target_body_fits m false o (sync_body d names x k ids) ≡ true) (sym target) rest)

@@ -13,8 +13,8 @@ use Rattle.lx_fhdl.specs.Keeping.{Keeps}
 use Rattle.lx_fhdl.specs.declared.design.Design.{Design}
 use Rattle.lx_emission.specs.Naming.{net, node_net, clock, NamesFit}
 use Rattle.lx_emission.specs.Nodes.{operand, node_text}
-use Rattle.lx_emission.specs.Signals.{Drive, Given, Held, Equal, Combined, Clocked, own, single, combined, drive_by, drive, reset_text, signal_net, assign_by, signal_assign, combined_body, clocked_body, always_by, signal_always}
-use Rattle.lx_emission.specs.Emission.{places_from, signal_port, is_given, is_port, is_net_node, node_assign, emitted}
+use Rattle.lx_emission.specs.Signals.{Drive, Input, Undriven, CombAssign, CombBlock, Sync, own, single, comb_drive, drive_by, drive, reset_text, signal_net, assign_by, signal_assign, comb_body, sync_body, always_by, signal_always}
+use Rattle.lx_emission.specs.Emission.{places_from, signal_port, is_input, is_port, is_net_node, node_assign, emitted}
 use Rattle.lx_emission.specs.Emits.{PortsFit}
 use Rattle.lx_emission.proofs.Lists.{name_same, name_other, second_of_two, none_at_places, one_at_places, collects_outside, collects_assigns, collects_blocks}
 use Rattle.lx_emission.proofs.Names.{node_net_once, net_once}
@@ -23,12 +23,12 @@ use Rattle.lx_emission.proofs.Structure.{IsNoSignal, IsNoNode, IsNoClock, net_no
 
 -- ---- an input is a port
 
-drive_given : (d : Design) (x : ℕ) (r : circuit.Role) → drive_by d x r ≡ Given → r ≡ circuit.Input
+drive_given : (d : Design) (x : ℕ) (r : circuit.Role) → drive_by d x r ≡ Input → r ≡ circuit.Input
 drive_given d x circuit.Input e = refl
 drive_given d x circuit.Undriven e = absurd cc
 drive_given d x circuit.Comb e = absurd (by (single d (own d x d.comb)) e)
   where
-    by : (o : Option ExprId) → combined (own d x d.comb) o ≡ Given → ⊥
+    by : (o : Option ExprId) → comb_drive (own d x d.comb) o ≡ Input → ⊥
     by None t = cc
     by (Some value) t = cc
 drive_given d x (circuit.Sync k) e = absurd cc
@@ -54,7 +54,7 @@ input_is_port d x e = idle (circuit.is_among x (circuit_of d).ios || circuit.is_
     by true t = absurd cc
     by false t = sync_input x 0 (circuit_of d).domains (circuit.idle_role (circuit_of d) x) t
 
-pub given_is_port : (d : Design) (x : ℕ) → drive d x ≡ Given → is_port d x ≡ true
+pub given_is_port : (d : Design) (x : ℕ) → drive d x ≡ Input → is_port d x ≡ true
 unfolding drive
 given_is_port d x e = input_is_port d x (drive_given d x (circuit.role (circuit_of d) x) e)
 
@@ -82,22 +82,22 @@ unfolding signal_assign
 signal_assign_other d names n x ne = by (drive d x)
   where
     by : (r : Drive) → assign_drivers n (assign_by d names x r) ≡ []
-    by Given = refl
-    by Held = rw (name_other (net names x) n ne) refl
-    by (Equal value) = rw (name_other (net names x) n ne) refl
-    by (Combined body) = refl
-    by (Clocked k body) = refl
+    by Input = refl
+    by Undriven = rw (name_other (net names x) n ne) refl
+    by (CombAssign value) = rw (name_other (net names x) n ne) refl
+    by (CombBlock body) = refl
+    by (Sync k body) = refl
 
 block_other : (d : Design) (names : List Name) (n : Name) (x : ℕ) → SetsAlone d names x (drive d x) → (net names x ≡ n → ⊥) → block_drivers n (signal_always d names x) ≡ []
 unfolding signal_always
 block_other d names n x alone ne = by (drive d x) alone
   where
     by : (r : Drive) → SetsAlone d names x r → block_drivers n (always_by d names x r) ≡ []
-    by Given h = refl
-    by Held h = refl
-    by (Equal value) h = refl
-    by (Combined body) h = rw (h n, name_other (net names x) n ne) refl
-    by (Clocked k body) h = rw (h n, name_other (net names x) n ne) refl
+    by Input h = refl
+    by Undriven h = refl
+    by (CombAssign value) h = refl
+    by (CombBlock body) h = rw (h n, name_other (net names x) n ne) refl
+    by (Sync k body) h = rw (h n, name_other (net names x) n ne) refl
 
 -- nothing comes of the nodes, of the signals, or of the blocks
 node_assigns_gone : (d : Design) (names : List Name) (n : Name) → IsNoNode d n → assign_drivers n (flat_map (node_assign d names) (places_from 0 d.exprs)) ≡ []
@@ -120,73 +120,73 @@ outside_gone d names keeps n signals clocks =
 
 -- what each way of driving a net gives in the ports, the assigns and the blocks
 abbrev outside_part : Drive → List runs.Driver
-outside_part Given = runs.Outside ∷ []
-outside_part Held = []
-outside_part (Equal value) = []
-outside_part (Combined body) = []
-outside_part (Clocked k body) = []
+outside_part Input = runs.Outside ∷ []
+outside_part Undriven = []
+outside_part (CombAssign value) = []
+outside_part (CombBlock body) = []
+outside_part (Sync k body) = []
 
 abbrev assign_part : Design → List Name → ℕ → Drive → List runs.Driver
-assign_part d names x Given = []
-assign_part d names x Held = runs.ByAssign (reset_text d x) ∷ []
-assign_part d names x (Equal value) = runs.ByAssign (operand d names value.place) ∷ []
-assign_part d names x (Combined body) = []
-assign_part d names x (Clocked k body) = []
+assign_part d names x Input = []
+assign_part d names x Undriven = runs.ByAssign (reset_text d x) ∷ []
+assign_part d names x (CombAssign value) = runs.ByAssign (operand d names value.place) ∷ []
+assign_part d names x (CombBlock body) = []
+assign_part d names x (Sync k body) = []
 
 abbrev block_part : Design → List Name → ℕ → Drive → List runs.Driver
-block_part d names x Given = []
-block_part d names x Held = []
-block_part d names x (Equal value) = []
-block_part d names x (Combined body) = runs.ByBlock (combined_body d names x body) ∷ []
-block_part d names x (Clocked k body) = runs.Clocked (clock d k) (clocked_body d names x k body) ∷ []
+block_part d names x Input = []
+block_part d names x Undriven = []
+block_part d names x (CombAssign value) = []
+block_part d names x (CombBlock body) = runs.ByBlock (comb_body d names x body) ∷ []
+block_part d names x (Sync k body) = runs.Clocked (clock d k) (sync_body d names x k body) ∷ []
 
 parts_join : (d : Design) (names : List Name) (x : ℕ) (r : Drive) → outside_part r ++ (assign_part d names x r ++ block_part d names x r) ≡ driver_by d names x r ∷ []
-parts_join d names x Given = refl
-parts_join d names x Held = refl
-parts_join d names x (Equal value) = refl
-parts_join d names x (Combined body) = refl
-parts_join d names x (Clocked k body) = refl
+parts_join d names x Input = refl
+parts_join d names x Undriven = refl
+parts_join d names x (CombAssign value) = refl
+parts_join d names x (CombBlock body) = refl
+parts_join d names x (Sync k body) = refl
 
 outside_own : (d : Design) (names : List Name) (x : ℕ) → outside_drivers (net names x) (signal_port d names x ∷ []) ≡ outside_part (drive d x)
 unfolding signal_net
 outside_own d names x = rw (name_same (net names x) (net names x) refl) (by (drive d x))
   where
-    by : (r : Drive) → cond (is_given r && true) (runs.Outside ∷ []) [] ≡ outside_part r
-    by Given = refl
-    by Held = refl
-    by (Equal value) = refl
-    by (Combined body) = refl
-    by (Clocked k body) = refl
+    by : (r : Drive) → cond (is_input r && true) (runs.Outside ∷ []) [] ≡ outside_part r
+    by Input = refl
+    by Undriven = refl
+    by (CombAssign value) = refl
+    by (CombBlock body) = refl
+    by (Sync k body) = refl
 
-outside_if_port : (b : Bool) (r : Drive) → (r ≡ Given → b ≡ true) → cond b (outside_part r) [] ≡ outside_part r
+outside_if_port : (b : Bool) (r : Drive) → (r ≡ Input → b ≡ true) → cond b (outside_part r) [] ≡ outside_part r
 outside_if_port true r h = refl
-outside_if_port false Given h = let t = h refl in absurd cc
-outside_if_port false Held h = refl
-outside_if_port false (Equal value) h = refl
-outside_if_port false (Combined body) h = refl
-outside_if_port false (Clocked k body) h = refl
+outside_if_port false Input h = let t = h refl in absurd cc
+outside_if_port false Undriven h = refl
+outside_if_port false (CombAssign value) h = refl
+outside_if_port false (CombBlock body) h = refl
+outside_if_port false (Sync k body) h = refl
 
 assign_own : (d : Design) (names : List Name) (x : ℕ) → assign_drivers (net names x) (signal_assign d names x) ≡ assign_part d names x (drive d x)
 unfolding signal_assign
 assign_own d names x = by (drive d x)
   where
     by : (r : Drive) → assign_drivers (net names x) (assign_by d names x r) ≡ assign_part d names x r
-    by Given = refl
-    by Held = rw (name_same (net names x) (net names x) refl) refl
-    by (Equal value) = rw (name_same (net names x) (net names x) refl) refl
-    by (Combined body) = refl
-    by (Clocked k body) = refl
+    by Input = refl
+    by Undriven = rw (name_same (net names x) (net names x) refl) refl
+    by (CombAssign value) = rw (name_same (net names x) (net names x) refl) refl
+    by (CombBlock body) = refl
+    by (Sync k body) = refl
 
 block_own : (d : Design) (names : List Name) (x : ℕ) → SetsAlone d names x (drive d x) → block_drivers (net names x) (signal_always d names x) ≡ block_part d names x (drive d x)
 unfolding signal_always
 block_own d names x alone = by (drive d x) alone
   where
     by : (r : Drive) → SetsAlone d names x r → block_drivers (net names x) (always_by d names x r) ≡ block_part d names x r
-    by Given h = refl
-    by Held h = refl
-    by (Equal value) h = refl
-    by (Combined body) h = rw (h (net names x), name_same (net names x) (net names x) refl) refl
-    by (Clocked k body) h = rw (h (net names x), name_same (net names x) (net names x) refl) refl
+    by Input h = refl
+    by Undriven h = refl
+    by (CombAssign value) h = refl
+    by (CombBlock body) h = rw (h (net names x), name_same (net names x) (net names x) refl) refl
+    by (Sync k body) h = rw (h (net names x), name_same (net names x) (net names x) refl) refl
 
 outside_signal : (d : Design) (names : List Name) → Keeps d → NamesFit d names → PortsFit d → (x : ℕ) → x < length d.signals → outside_drivers (net names x) (emitted d names).ports ≡ outside_part (drive d x)
 unfolding emitted

@@ -8,7 +8,8 @@ use Rattle.lx_num.proofs.Ints.{modulo-below}
 use Rattle.lx_num.proofs.Ranges.{modulo-read_bits, modulo-wrap_bits}
 use Rattle.lx_circuit.specs.Values.{Values, value_of}
 use Rattle.lx_circuit.specs.Statements.{Piece, after_pieces, taken_block, result}
-use Rattle.lx_circuit.specs.Circuit.{Role, Input, Comb, Sync, Undriven, role, by_role, IsSettled, InputsFit, StateFits}
+use Rattle.lx_circuit.specs.Circuit as circuit
+use Rattle.lx_circuit.specs.Circuit.{Role, role, by_role, IsSettled, InputsFit, StateFits}
 use Rattle.lx_circuit.proofs.Fitting.{settled_fits}
 use Rattle.lx_vtext.specs.Tree.{Name, EndBlock}
 use Rattle.lx_vmeaning.specs.Meaning.{Valuation, meaning, assigned}
@@ -24,7 +25,7 @@ use Rattle.lx_fhdl.specs.declared.design.Design.{Design}
 use Rattle.lx_fhdl.proofs.Designs as design
 use Rattle.lx_emission.specs.Naming.{net, node_net, clock, naming, NamesFit}
 use Rattle.lx_emission.specs.Nodes.{node_shape, operand, node_text}
-use Rattle.lx_emission.specs.Signals.{Drive, Given, Held, Equal, Combined, Clocked, drive, drive_by, combined, own, single, reset_of_signal, reset_text}
+use Rattle.lx_emission.specs.Signals.{Drive, Input, Undriven, CombAssign, CombBlock, Sync, drive, drive_by, comb_drive, own, single, reset_of_signal, reset_text}
 use Rattle.lx_emission.specs.Emission.{emitted}
 use Rattle.lx_emission.specs.Emits.{CanBeEmitted}
 use Rattle.lx_emission.proofs.Setting.{IsNetNode, HasPatterns, SignalsFit, OperandsStand, driver_by}
@@ -130,7 +131,7 @@ own_pattern d v x ids start keeps below plain =
     let less = pieces_below d v x keeps (own d x ids) (own_below d x (length d.stmts) ids below) (own_for d x ids plain) (modulo start (2 ^ n)) start_below in
     result_pattern d x start (taken_block (shapes d) v (block d ids)) (subst (λ k. k < 2 ^ n) same less) ∙ sym same
 
-comb_pattern : (d : Design) (names : List Name) (state inputs v : Values) (x : ℕ) → CanBeEmitted d names → IsSettled (circuit_of d) state inputs v → role (circuit_of d) x ≡ Comb
+comb_pattern : (d : Design) (names : List Name) (state inputs v : Values) (x : ℕ) → CanBeEmitted d names → IsSettled (circuit_of d) state inputs v → role (circuit_of d) x ≡ circuit.Comb
     → modulo (v x) (2 ^ (shapes d x).bits) ≡ after_pieces x (modulo (reset_of_signal d x) (2 ^ (shapes d x).bits)) (taken_block (shapes d) v (block d (own d x d.comb)))
 unfolding circuit_of
 comb_pattern d names state inputs v x can settled e =
@@ -148,14 +149,14 @@ abbrev Holds : Design → List Name → Valuation → (Name → ℕ) → Valuati
 Holds d names state inputs w x g = w.nets (net names x) ≡ by_driver (emitted d names) state inputs w (net names x) (driver_by d names x g)
 
 held_holds : (d : Design) (names : List Name) (state inputs v : Values) (v_state : Valuation) (v_inputs : Name → ℕ) (w : Valuation) (x : ℕ) → CanBeEmitted d names → x < length d.signals → Moment d names v w → IsSettled (circuit_of d) state inputs v
-    → role (circuit_of d) x ≡ Undriven → Holds d names v_state v_inputs w x Held
+    → role (circuit_of d) x ≡ circuit.Undriven → Holds d names v_state v_inputs w x Undriven
 held_holds d names state inputs v v_state v_inputs w x can lt now settled e =
     now.has.signals x lt
     ∙ (ap (λ z. modulo z (2 ^ (shapes d x).bits)) (settled.each x ∙ ap (by_role (circuit_of d) state inputs v x) e)
     ∙ sym (reset_assigned d names x w can lt))
 
 equal_holds : (d : Design) (names : List Name) (state inputs v : Values) (v_state : Valuation) (v_inputs : Name → ℕ) (w : Valuation) (x : ℕ) → CanBeEmitted d names → x < length d.signals → Moment d names v w → IsSettled (circuit_of d) state inputs v
-    → role (circuit_of d) x ≡ Comb → (value : ExprId) → single d (own d x d.comb) ≡ Some value → Holds d names v_state v_inputs w x (Equal value)
+    → role (circuit_of d) x ≡ circuit.Comb → (value : ExprId) → single d (own d x d.comb) ≡ Some value → Holds d names v_state v_inputs w x (CombAssign value)
 equal_holds d names state inputs v v_state v_inputs w x can lt now settled e value is =
     let n = (shapes d x).bits in
     let keeps = can.keeps in
@@ -166,7 +167,7 @@ equal_holds d names state inputs v v_state v_inputs w x can lt now settled e val
     ∙ sym (ap (λ k. assigned (sizes (emitted d names)) w k (operand d names value.place)) (net_bits d names x can lt) ∙ now.stand.assigned value.place one.0 n)))
 
 combined_holds : (d : Design) (names : List Name) (state inputs v : Values) (v_state : Valuation) (v_inputs : Name → ℕ) (w : Valuation) (x : ℕ) → CanBeEmitted d names → x < length d.signals → Moment d names v w → IsSettled (circuit_of d) state inputs v
-    → role (circuit_of d) x ≡ Comb → Holds d names v_state v_inputs w x (Combined (own d x d.comb))
+    → role (circuit_of d) x ≡ circuit.Comb → Holds d names v_state v_inputs w x (CombBlock (own d x d.comb))
 combined_holds d names state inputs v v_state v_inputs w x can lt now settled e =
     let n = (shapes d x).bits in
     let keeps = can.keeps in
@@ -179,30 +180,30 @@ combined_holds d names state inputs v v_state v_inputs w x can lt now settled e 
     ∙ sym (ap (λ k. run_block s w (block_onto (stmt_text d names true) ids EndBlock) k) (reset_assigned d names x w can lt) ∙ runs))
 
 given_holds : (d : Design) (names : List Name) (state inputs v : Values) (v_state : Valuation) (v_inputs : Name → ℕ) (w : Valuation) (x : ℕ) → x < length d.signals → Moment d names v w → IsSettled (circuit_of d) state inputs v
-    → SameInputs (circuit_of d) (naming d names) inputs v_inputs → role (circuit_of d) x ≡ Input → Holds d names v_state v_inputs w x Given
+    → SameInputs (circuit_of d) (naming d names) inputs v_inputs → role (circuit_of d) x ≡ circuit.Input → Holds d names v_state v_inputs w x Input
 given_holds d names state inputs v v_state v_inputs w x lt now settled same e =
     now.has.signals x lt
     ∙ (ap (λ z. modulo z (2 ^ (shapes d x).bits)) (settled.each x ∙ ap (by_role (circuit_of d) state inputs v x) e)
     ∙ sym (same.each x e))
 
 clocked_holds : (d : Design) (names : List Name) (state inputs v : Values) (v_state : Valuation) (v_inputs : Name → ℕ) (w : Valuation) (x k : ℕ) (ids : List StmtId) → x < length d.signals → Moment d names v w → IsSettled (circuit_of d) state inputs v
-    → SameState (circuit_of d) (naming d names) state v_state → role (circuit_of d) x ≡ Sync k → Holds d names v_state v_inputs w x (Clocked k ids)
+    → SameState (circuit_of d) (naming d names) state v_state → role (circuit_of d) x ≡ circuit.Sync k → Holds d names v_state v_inputs w x (Sync k ids)
 clocked_holds d names state inputs v v_state v_inputs w x k ids lt now settled same e =
     now.has.signals x lt
     ∙ (ap (λ z. modulo z (2 ^ (shapes d x).bits)) (settled.each x ∙ ap (by_role (circuit_of d) state inputs v x) e)
     ∙ sym (same.signals x k e))
 
 comb_holds : (d : Design) (names : List Name) (state inputs v : Values) (v_state : Valuation) (v_inputs : Name → ℕ) (w : Valuation) (x : ℕ) → CanBeEmitted d names → x < length d.signals → Moment d names v w → IsSettled (circuit_of d) state inputs v
-    → role (circuit_of d) x ≡ Comb → (o : Option ExprId) → single d (own d x d.comb) ≡ o → Holds d names v_state v_inputs w x (combined (own d x d.comb) o)
+    → role (circuit_of d) x ≡ circuit.Comb → (o : Option ExprId) → single d (own d x d.comb) ≡ o → Holds d names v_state v_inputs w x (comb_drive (own d x d.comb) o)
 comb_holds d names state inputs v v_state v_inputs w x can lt now settled e None is = combined_holds d names state inputs v v_state v_inputs w x can lt now settled e
 comb_holds d names state inputs v v_state v_inputs w x can lt now settled e (Some value) is = equal_holds d names state inputs v v_state v_inputs w x can lt now settled e value is
 
 role_holds : (d : Design) (names : List Name) (state inputs v : Values) (v_state : Valuation) (v_inputs : Name → ℕ) (w : Valuation) (x : ℕ) → CanBeEmitted d names → x < length d.signals → Moment d names v w → IsSettled (circuit_of d) state inputs v
     → SameState (circuit_of d) (naming d names) state v_state → SameInputs (circuit_of d) (naming d names) inputs v_inputs → (r : Role) → role (circuit_of d) x ≡ r → Holds d names v_state v_inputs w x (drive_by d x r)
-role_holds d names state inputs v v_state v_inputs w x can lt now settled same_s same_i Input e = given_holds d names state inputs v v_state v_inputs w x lt now settled same_i e
-role_holds d names state inputs v v_state v_inputs w x can lt now settled same_s same_i Comb e = comb_holds d names state inputs v v_state v_inputs w x can lt now settled e (single d (own d x d.comb)) refl
-role_holds d names state inputs v v_state v_inputs w x can lt now settled same_s same_i (Sync k) e = clocked_holds d names state inputs v v_state v_inputs w x k (own d x (stmts_of k d.sync)) lt now settled same_s e
-role_holds d names state inputs v v_state v_inputs w x can lt now settled same_s same_i Undriven e = held_holds d names state inputs v v_state v_inputs w x can lt now settled e
+role_holds d names state inputs v v_state v_inputs w x can lt now settled same_s same_i circuit.Input e = given_holds d names state inputs v v_state v_inputs w x lt now settled same_i e
+role_holds d names state inputs v v_state v_inputs w x can lt now settled same_s same_i circuit.Comb e = comb_holds d names state inputs v v_state v_inputs w x can lt now settled e (single d (own d x d.comb)) refl
+role_holds d names state inputs v v_state v_inputs w x can lt now settled same_s same_i (circuit.Sync k) e = clocked_holds d names state inputs v v_state v_inputs w x k (own d x (stmts_of k d.sync)) lt now settled same_s e
+role_holds d names state inputs v v_state v_inputs w x can lt now settled same_s same_i circuit.Undriven e = held_holds d names state inputs v v_state v_inputs w x can lt now settled e
 
 signal_holds : (d : Design) (names : List Name) (state inputs v : Values) (v_state : Valuation) (v_inputs : Name → ℕ) (w : Valuation) (x : ℕ) → CanBeEmitted d names → x < length d.signals → Moment d names v w → IsSettled (circuit_of d) state inputs v
     → SameState (circuit_of d) (naming d names) state v_state → SameInputs (circuit_of d) (naming d names) inputs v_inputs → Holds d names v_state v_inputs w x (drive d x)

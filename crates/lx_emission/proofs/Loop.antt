@@ -6,7 +6,8 @@ use Rattle.std.specs.Prelude.{slice_get}
 use Rattle.lx_circuit.specs.Terms.{Term, Terms, Constant, Signal, Unary, Binary, Mux, Cat, Replicate, Slice, Pick, NoTerm, MoreTerms}
 use Rattle.lx_circuit.specs.Statements as tree
 use Rattle.lx_circuit.specs.Statements.{drives_block, is_target}
-use Rattle.lx_circuit.specs.Circuit.{Role, Input, Comb, Sync, Undriven, role}
+use Rattle.lx_circuit.specs.Circuit as roles
+use Rattle.lx_circuit.specs.Circuit.{Role, role}
 use Rattle.lx_fhdl.specs.Trees.{term_at}
 use Rattle.lx_fhdl.specs.Stmts.{target_at}
 use Rattle.lx_fhdl.proofs.StmtTrees.{stmt_at-is}
@@ -24,7 +25,7 @@ use Rattle.lx_fhdl.specs.Lowered.{IsLowered, is_plain_target, is_for, are_for}
 use Rattle.lx_fhdl.specs.declared.design.Design.{Design}
 use Rattle.lx_emission.specs.Naming.{net, node_net, clock, NamesFit}
 use Rattle.lx_emission.specs.Nodes.{operand, node_text}
-use Rattle.lx_emission.specs.Signals.{Drive, Given, Held, Equal, Combined, Clocked, drive, combined, drive_by, own, is_whole, whole_value, single}
+use Rattle.lx_emission.specs.Signals.{Drive, Input, Undriven, CombAssign, CombBlock, Sync, drive, comb_drive, drive_by, own, is_whole, whole_value, single}
 use Rattle.lx_emission.proofs.Setting.{IsNetNode, MayRead, driver_by}
 use Rattle.lx_emission.proofs.Names.{net_once, node_net_once, net_not_clock, net_not_node, clock_not_node}
 use Rattle.lx_emission.proofs.Structure.{Class, OfSignal, OfNode, OfClock, OfNothing, IsNoSignal, IsNoNode, IsNoClock, name_classes, net_node_within}
@@ -210,19 +211,19 @@ pub record IsRightSide (d : Design) (x : ℕ) (ids : List StmtId) (value : ExprI
   pub within : value.place < length d.exprs
   pub signals : (y : ℕ) → circuit.names y (term d value.place) ≡ true → reads_block x y (block d ids) ≡ true
 
-equal_list : (d : Design) (x : ℕ) (value : ExprId) → drive d x ≡ Equal value → single d (own d x d.comb) ≡ Some value
+equal_list : (d : Design) (x : ℕ) (value : ExprId) → drive d x ≡ CombAssign value → single d (own d x d.comb) ≡ Some value
 unfolding drive
 equal_list d x value e = by_role (role (circuit_of d) x) e
   where
-    by_single : (o : Option ExprId) → combined (own d x d.comb) o ≡ Equal value → o ≡ Some value
+    by_single : (o : Option ExprId) → comb_drive (own d x d.comb) o ≡ CombAssign value → o ≡ Some value
     by_single None h = absurd cc
     by_single (Some v) h = cc
 
-    by_role : (r : Role) → drive_by d x r ≡ Equal value → single d (own d x d.comb) ≡ Some value
-    by_role Input h = absurd cc
-    by_role Comb h = by_single (single d (own d x d.comb)) h
-    by_role (Sync k) h = absurd cc
-    by_role Undriven h = absurd cc
+    by_role : (r : Role) → drive_by d x r ≡ CombAssign value → single d (own d x d.comb) ≡ Some value
+    by_role roles.Input h = absurd cc
+    by_role roles.Comb h = by_single (single d (own d x d.comb)) h
+    by_role (roles.Sync k) h = absurd cc
+    by_role roles.Undriven h = absurd cc
 
 plain_is_target : (x : ℕ) (t : tree.Target) → is_plain_target x t ≡ true → is_target x t ≡ true
 plain_is_target x (tree.Whole y) e = e
@@ -256,7 +257,7 @@ side_list d x value keeps [] plain h = absurd cc
 side_list d x value keeps (i ∷ []) plain h = side_at d x value i keeps (and_parts (is_for x (stmt d i.place)) true plain).0 (slice_get d.stmts i.place) refl h
 side_list d x value keeps (i ∷ (j ∷ is)) plain h = absurd cc
 
-pub equal_side : (d : Design) (x : ℕ) (value : ExprId) → Keeps d → IsLowered d → drive d x ≡ Equal value → IsRightSide d x (own d x d.comb) value
+pub equal_side : (d : Design) (x : ℕ) (value : ExprId) → Keeps d → IsLowered d → drive d x ≡ CombAssign value → IsRightSide d x (own d x d.comb) value
 equal_side d x value keeps low e = side_list d x value keeps (own d x d.comb) (own_for d x d.comb low.comb) (equal_list d x value e)
 
 -- ---- no net depends on itself
@@ -267,18 +268,18 @@ after d o x y e = o.after x y (own_reads d x y d.comb e)
 
 signal_falls : (d : Design) (names : List Name) → Keeps d → IsLowered d → NamesFit d names → (o : HasOrder (circuit_of d)) (x : ℕ) → x < length d.signals → (n : Name)
     → (g : Drive) → drive d x ≡ g → driver_reads n (driver_by d names x g) ≡ true → rank_of d names o.rank n < rank_signal d o.rank x
-signal_falls d names keeps low fit o x lt n Given e h = absurd cc
-signal_falls d names keeps low fit o x lt n Held e h = absurd cc
-signal_falls d names keeps low fit o x lt n (Equal value) e h =
+signal_falls d names keeps low fit o x lt n Input e h = absurd cc
+signal_falls d names keeps low fit o x lt n Undriven e h = absurd cc
+signal_falls d names keeps low fit o x lt n (CombAssign value) e h =
     let side = equal_side d x value keeps low e in
     operand_below d names keeps fit o.rank x value.place n lt side.within (λ y p. after d o x y (side.signals y p)) h
-signal_falls d names keeps low fit o x lt n (Combined ids) e h =
+signal_falls d names keeps low fit o x lt n (CombBlock ids) e h =
     let plain = combined_own d x ids keeps low e in
     elim (text_reads d names true x keeps ids plain.below plain.plain EndBlock n h) [
       | inl p ↦ absurd cc
       | inr p ↦ operand_below d names keeps fit o.rank x p.place n lt p.within (λ y q. after d o x y (subst (λ (ks : List StmtId). reads_block x y (block d ks) ≡ true) (combined_list d x ids e) (p.signals y q))) p.read
     ]
-signal_falls d names keeps low fit o x lt n (Clocked k ids) e h = absurd cc
+signal_falls d names keeps low fit o x lt n (Sync k ids) e h = absurd cc
 
 pub no_loop : (d : Design) (names : List Name) → Keeps d → IsLowered d → HasOrder (circuit_of d) → NamesFit d names → (m : VModule) → DriversAre d names m → HasNoLoop m
 no_loop d names keeps low o fit m are = record { rank = rank_of d names o.rank; falls = λ n k h. by_class n k (name_classes d names n) h }

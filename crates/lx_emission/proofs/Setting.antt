@@ -18,7 +18,7 @@ use Rattle.lx_fhdl.specs.declared.exprs.Expr.{Expr}
 use Rattle.lx_fhdl.specs.declared.design.Design.{Design}
 use Rattle.lx_emission.specs.Naming.{net, has_net, node_net}
 use Rattle.lx_emission.specs.Nodes.{node_shape, operand}
-use Rattle.lx_emission.specs.Signals.{Drive, Given, Held, Equal, Combined, Clocked, drive, reset_text, combined_body, clocked_body}
+use Rattle.lx_emission.specs.Signals.{Drive, Input, Undriven, CombAssign, CombBlock, Sync, drive, reset_text, comb_body, sync_body}
 use Rattle.lx_emission.specs.Naming as naming
 
 abbrev pub declared : ℕ → Bool → Declared
@@ -92,18 +92,18 @@ pub record OperandsAreLawful (d : Design) (names : List Name) : Type 0 where
 
 -- what drives the net of a signal, as the module has it
 abbrev pub driver_by : Design → List Name → ℕ → Drive → runs.Driver
-driver_by d names x Given = runs.Outside
-driver_by d names x Held = runs.ByAssign (reset_text d x)
-driver_by d names x (Equal value) = runs.ByAssign (operand d names value.place)
-driver_by d names x (Combined body) = runs.ByBlock (combined_body d names x body)
-driver_by d names x (Clocked k body) = runs.Clocked (naming.clock d k) (clocked_body d names x k body)
+driver_by d names x Input = runs.Outside
+driver_by d names x Undriven = runs.ByAssign (reset_text d x)
+driver_by d names x (CombAssign value) = runs.ByAssign (operand d names value.place)
+driver_by d names x (CombBlock body) = runs.ByBlock (comb_body d names x body)
+driver_by d names x (Sync k body) = runs.Clocked (naming.clock d k) (sync_body d names x k body)
 
 abbrev pub SetsAlone : Design → List Name → ℕ → Drive → Type 0
-SetsAlone d names x Given = Unit {0}
-SetsAlone d names x Held = Unit {0}
-SetsAlone d names x (Equal value) = Unit {0}
-SetsAlone d names x (Combined body) = (n : Name) → sets_block n (combined_body d names x body) ≡ bytes_eq (net names x) n
-SetsAlone d names x (Clocked k body) = (n : Name) → sets_block n (clocked_body d names x k body) ≡ bytes_eq (net names x) n
+SetsAlone d names x Input = Unit {0}
+SetsAlone d names x Undriven = Unit {0}
+SetsAlone d names x (CombAssign value) = Unit {0}
+SetsAlone d names x (CombBlock body) = (n : Name) → sets_block n (comb_body d names x body) ≡ bytes_eq (net names x) n
+SetsAlone d names x (Sync k body) = (n : Name) → sets_block n (sync_body d names x k body) ≡ bytes_eq (net names x) n
 
 -- the block of each signal assigns its net alone
 pub record BlocksSetAlone (d : Design) (names : List Name) : Type 0 where

@@ -8,7 +8,7 @@ use Rattle.lx_num.proofs.Ranges.{modulo-wrap_bits}
 use Rattle.lx_circuit.specs.Values.{Values, is_zero}
 use Rattle.lx_circuit.specs.Statements.{after_pieces, taken_block, result}
 use Rattle.lx_circuit.specs.Circuit as circuit
-use Rattle.lx_circuit.specs.Circuit.{Role, Sync, role, made, by_role, IsSettled, InputsFit, StateFits, next_state, first_state, risen, is_reset, domain_at, no_domain}
+use Rattle.lx_circuit.specs.Circuit.{Role, role, made, by_role, IsSettled, InputsFit, StateFits, next_state, first_state, risen, is_reset, domain_at, no_domain}
 use Rattle.lx_circuit.proofs.Fitting.{settled_fits}
 use Rattle.lx_vtext.specs.Tree.{Name, Net, Whole, Assign, When, NoElse, VBlock, EndBlock, InBlock}
 use Rattle.lx_vmeaning.specs.Meaning.{Sizes, Valuation, meaning, assigned, holds}
@@ -25,7 +25,7 @@ use Rattle.lx_fhdl.specs.declared.design.Design.{Design}
 use Rattle.lx_fhdl.proofs.Designs as design
 use Rattle.lx_fhdl.proofs.Arena.{node_there}
 use Rattle.lx_emission.specs.Naming.{net, node_net, clock, naming}
-use Rattle.lx_emission.specs.Signals.{Drive, Clocked, drive, drive_by, own, reset_of_signal, reset_text, domain_reset, reset_block, clocked_body, init_of, shape_of_signal, signal_net}
+use Rattle.lx_emission.specs.Signals.{Drive, Sync, drive, drive_by, own, reset_of_signal, reset_text, domain_reset, reset_block, sync_body, init_of, shape_of_signal, signal_net}
 use Rattle.lx_emission.specs.Emission.{emitted}
 use Rattle.lx_emission.specs.Emits.{CanBeEmitted}
 use Rattle.lx_emission.proofs.Setting.{HasPatterns, SignalsFit, driver_by}
@@ -92,7 +92,7 @@ choice_pattern false m y z = refl
 
 -- what a risen domain gives a signal
 risen_pattern : (d : Design) (names : List Name) (v : Values) (w : Valuation) (x k : ℕ) (y : Domain) → CanBeEmitted d names → Moment d names v w → x < length d.signals → slice_get d.domains k ≡ Some y
-    → run_block (sizes (emitted d names)) w (clocked_body d names x k (own d x (stmts_of k d.sync))) (modulo (v x) (2 ^ (shapes d x).bits)) ≡ pattern (circuit_of d) x (risen (circuit_of d) v (domain_of d k y) x)
+    → run_block (sizes (emitted d names)) w (sync_body d names x k (own d x (stmts_of k d.sync))) (modulo (v x) (2 ^ (shapes d x).bits)) ≡ pattern (circuit_of d) x (risen (circuit_of d) v (domain_of d k y) x)
 risen_pattern d names v w x k y can now lt there =
     let n = (shapes d x).bits in
     let s = sizes (emitted d names) in
@@ -115,19 +115,19 @@ step_pattern : (b c : Bool) (p q : ℕ) (m : ℕ) (y z : ℤ) → b ≡ c → p 
 step_pattern true c p q m y z e f g = rw (sym e) f
 step_pattern false c p q m y z e f g = rw (sym e) g
 
-sync_drive : (d : Design) (x k : ℕ) → role (circuit_of d) x ≡ Sync k → drive d x ≡ Clocked k (own d x (stmts_of k d.sync))
+sync_drive : (d : Design) (x k : ℕ) → role (circuit_of d) x ≡ circuit.Sync k → drive d x ≡ Sync k (own d x (stmts_of k d.sync))
 unfolding drive
 sync_drive d x k e = ap (drive_by d x) e
 
 -- a registered signal is one of the design's
-registered : (d : Design) (names : List Name) (x k : ℕ) → CanBeEmitted d names → role (circuit_of d) x ≡ Sync k → x < length d.signals
+registered : (d : Design) (names : List Name) (x k : ℕ) → CanBeEmitted d names → role (circuit_of d) x ≡ circuit.Sync k → x < length d.signals
 registered d names x k can e =
     let f = sync_drive d x k e in
     let list = clocked_own d x k (own d x (stmts_of k d.sync)) can.keeps can.lowered f in
     list_made d x can.keeps (own d x (stmts_of k d.sync)) list.plain (clocked_some d x k (own d x (stmts_of k d.sync)) f)
 
 registered_next : (d : Design) (names : List Name) (state v : Values) (v_state w : Valuation) (rises : ℕ → Bool) (v_rises : Name → Bool) (x k : ℕ) → CanBeEmitted d names → Moment d names v w
-    → role (circuit_of d) x ≡ Sync k → v_state.nets (net names x) ≡ modulo (state x) (2 ^ (shapes d x).bits) → v x ≡ state x → v_rises (clock d k) ≡ rises k
+    → role (circuit_of d) x ≡ circuit.Sync k → v_state.nets (net names x) ≡ modulo (state x) (2 ^ (shapes d x).bits) → v x ≡ state x → v_rises (clock d k) ≡ rises k
     → (v_next (emitted d names) v_state w v_rises).nets (net names x) ≡ pattern (circuit_of d) x (next_state (circuit_of d) state v rises x)
 registered_next d names state v v_state w rises v_rises x k can now e same held rise =
     let m = emitted d names in
@@ -137,7 +137,7 @@ registered_next d names state v v_state w rises v_rises x k can now e same held 
     let ids = own d x (stmts_of k d.sync) in
     let within = clocked_within d x k ids f in
     let (y, there) = node_there d.domains k within in
-    let body = clocked_body d names x k ids in
+    let body = sync_body d names x k ids in
     let is : driver m (net names x) ≡ runs.Clocked (clock d k) body = ap first_driver ((drivers_are d names can).signals x lt) ∙ ap (driver_by d names x) f in
     let old : v_state.nets (net names x) ≡ modulo (v x) (2 ^ n) = same ∙ ap (λ z. modulo z (2 ^ n)) (sym held) in
     let ran = ap (λ p. run_block (sizes m) w body p) old ∙ risen_pattern d names v w x k y can now lt there in
@@ -155,7 +155,7 @@ within_circuit : (d : Design) (k : ℕ) → k < length d.domains → k < length 
 unfolding circuit_of
 within_circuit d k lt = omega (arith, domains_long d 0 d.domains)
 
-sync_held : (d : Design) (state inputs v : Values) (x k : ℕ) → IsSettled (circuit_of d) state inputs v → role (circuit_of d) x ≡ Sync k → v x ≡ state x
+sync_held : (d : Design) (state inputs v : Values) (x k : ℕ) → IsSettled (circuit_of d) state inputs v → role (circuit_of d) x ≡ circuit.Sync k → v x ≡ state x
 sync_held d state inputs v x k settled e = settled.each x ∙ ap (by_role (circuit_of d) state inputs v x) e
 
 -- settled patterns are those of the values, for nodes too
@@ -179,7 +179,7 @@ steps d names can state inputs v v_state w v_inputs rises v_rises fits inputs_fi
 
 -- ---- the first state
 
-literal_first : (d : Design) (names : List Name) (x : ℕ) (g : Drive) → CanBeEmitted d names → x < length d.signals → (k : ℕ) (body : List StmtId) → g ≡ Clocked k body
+literal_first : (d : Design) (names : List Name) (x : ℕ) (g : Drive) → CanBeEmitted d names → x < length d.signals → (k : ℕ) (body : List StmtId) → g ≡ Sync k body
     → first_net (Some (record { signed = (shape_of_signal d x).signed; bits = (shape_of_signal d x).bits; name = net names x; init = init_of (shape_of_signal d x) (reset_of_signal d x) g })) ≡ modulo (reset_of_signal d x) (2 ^ (shapes d x).bits)
 literal_first d names x g can lt k body e =
     let n = (shapes d x).bits in

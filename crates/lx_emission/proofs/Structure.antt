@@ -22,8 +22,8 @@ use Rattle.lx_fhdl.specs.declared.design.Domain.{Domain}
 use Rattle.lx_fhdl.specs.declared.design.Design.{Design}
 use Rattle.lx_emission.specs.Naming.{net, node_net, nets_before, clock, NamesFit}
 use Rattle.lx_emission.specs.Nodes.{node_shape, operand, node_text}
-use Rattle.lx_emission.specs.Signals.{Drive, Given, Held, Equal, Combined, Clocked, own, single, combined, drive_by, drive, init_of, shape_of_signal, reset_of_signal, reset_text, signal_net, assign_by, signal_assign, combined_body, clocked_body, always_by, signal_always}
-use Rattle.lx_emission.specs.Emission.{wire, signal_port, reset_port, domain_port, domain_ports, ports_of, is_port, is_given, is_net_node, inner_decl, node_decl, node_assign, decls_of, places_from, emitted}
+use Rattle.lx_emission.specs.Signals.{Drive, Input, Undriven, CombAssign, CombBlock, Sync, own, single, comb_drive, drive_by, drive, init_of, shape_of_signal, reset_of_signal, reset_text, signal_net, assign_by, signal_assign, comb_body, sync_body, always_by, signal_always}
+use Rattle.lx_emission.specs.Emission.{wire, signal_port, reset_port, domain_port, domain_ports, ports_of, is_port, is_input, is_net_node, inner_decl, node_decl, node_assign, decls_of, places_from, emitted}
 use Rattle.lx_emission.specs.Emits.{PortsFit, are_once, none_is_reset}
 use Rattle.lx_emission.proofs.Lists.{by_test, is_false, not_true, same_name, name_same, name_other, names_differ, Collects, collects_next, collects_after, collects_map, none_of_two, first_of_two, second_of_two, none_at_places, one_at_places, each_of_two, each_at_places, each_mapped, all_from_each, none_from_each, OfNet, each_decl_net, called, first_net, net_named_is, is_once, distinct_from_once, input_is, collects_outside, collects_memories, collects_called, collects_decls}
 use Rattle.lx_emission.proofs.Names.{node_net_once, clock_once, clock_not_node, net_once, net_not_clock, net_not_node}
@@ -538,7 +538,7 @@ outside_at_clock d n k ne = rw (name_other (clock d k) n ne) refl
 
 pub outside_at_signal : (d : Design) (names : List Name) (n : Name) (x : ℕ) → (net names x ≡ n → ⊥) → outside_drivers n (signal_port d names x ∷ []) ≡ []
 unfolding signal_net
-outside_at_signal d names n x ne = rw (name_other (net names x) n ne) (by (is_given (drive d x)))
+outside_at_signal d names n x ne = rw (name_other (net names x) n ne) (by (is_input (drive d x)))
   where
     by : (b : Bool) → cond (b && false) (Outside ∷ []) [] ≡ []
     by true = refl
@@ -639,21 +639,21 @@ node_assign_holds P d names k h = by (is_net_node (slice_get d.exprs k)) refl
     by true t = (h (net_node_at d k t), tt)
     by false t = tt
 
-signal_assign_holds : (P : VAssign → Type 0) (d : Design) (names : List Name) (x : ℕ) → (drive d x ≡ Held → P (signal_assignment names x (reset_text d x))) → ((value : ExprId) → drive d x ≡ Equal value → P (signal_assignment names x (operand d names value.place)))
+signal_assign_holds : (P : VAssign → Type 0) (d : Design) (names : List Name) (x : ℕ) → (drive d x ≡ Undriven → P (signal_assignment names x (reset_text d x))) → ((value : ExprId) → drive d x ≡ CombAssign value → P (signal_assignment names x (operand d names value.place)))
     → AllByRecursion P (signal_assign d names x)
 unfolding signal_assign
 signal_assign_holds P d names x held equal = by (drive d x) refl
   where
     by : (r : Drive) → drive d x ≡ r → AllByRecursion P (assign_by d names x r)
-    by Given e = tt
-    by Held e = (held e, tt)
-    by (Equal value) e = (equal value e, tt)
-    by (Combined body) e = tt
-    by (Clocked k body) e = tt
+    by Input e = tt
+    by Undriven e = (held e, tt)
+    by (CombAssign value) e = (equal value e, tt)
+    by (CombBlock body) e = tt
+    by (Sync k body) e = tt
 
 pub assigns_hold : (P : VAssign → Type 0) (d : Design) (names : List Name) → ((k : ℕ) → IsNetNode d k → P (record { name = node_net d.exprs k; value = node_text d names k }))
-    → ((x : ℕ) → x < length d.signals → drive d x ≡ Held → P (record { name = net names x; value = reset_text d x }))
-    → ((x : ℕ) (value : ExprId) → x < length d.signals → drive d x ≡ Equal value → P (record { name = net names x; value = operand d names value.place }))
+    → ((x : ℕ) → x < length d.signals → drive d x ≡ Undriven → P (record { name = net names x; value = reset_text d x }))
+    → ((x : ℕ) (value : ExprId) → x < length d.signals → drive d x ≡ CombAssign value → P (record { name = net names x; value = operand d names value.place }))
     → AllByRecursion P (emitted d names).assigns
 unfolding emitted
 assigns_hold P d names nodes held equal =
@@ -662,37 +662,37 @@ assigns_hold P d names nodes held equal =
     (each_at_places P (signal_assign d names) 0 d.signals (λ j p q. signal_assign_holds P d names j (held j (omega arith)) (λ value e. equal j value (omega arith) e)))
 
 pub each_assign : (P : VAssign → Bool) (d : Design) (names : List Name) → ((k : ℕ) → IsNetNode d k → P (record { name = node_net d.exprs k; value = node_text d names k }) ≡ true)
-    → ((x : ℕ) → x < length d.signals → drive d x ≡ Held → P (record { name = net names x; value = reset_text d x }) ≡ true)
-    → ((x : ℕ) (value : ExprId) → x < length d.signals → drive d x ≡ Equal value → P (record { name = net names x; value = operand d names value.place }) ≡ true)
+    → ((x : ℕ) → x < length d.signals → drive d x ≡ Undriven → P (record { name = net names x; value = reset_text d x }) ≡ true)
+    → ((x : ℕ) (value : ExprId) → x < length d.signals → drive d x ≡ CombAssign value → P (record { name = net names x; value = operand d names value.place }) ≡ true)
     → IsTrue (list_all P (emitted d names).assigns)
 each_assign P d names nodes held equal = all_from_each P (emitted d names).assigns (assigns_hold (λ a. P a ≡ true) d names nodes held equal)
 
 -- ---- blocks
 
-signal_always_holds : (P : VAlways → Type 0) (d : Design) (names : List Name) (x : ℕ) → ((body : List StmtId) → drive d x ≡ Combined body → P (record { clock = None; body = combined_body d names x body }))
-    → ((k : ℕ) (body : List StmtId) → drive d x ≡ Clocked k body → P (record { clock = Some (clock d k); body = clocked_body d names x k body })) → AllByRecursion P (signal_always d names x)
+signal_always_holds : (P : VAlways → Type 0) (d : Design) (names : List Name) (x : ℕ) → ((body : List StmtId) → drive d x ≡ CombBlock body → P (record { clock = None; body = comb_body d names x body }))
+    → ((k : ℕ) (body : List StmtId) → drive d x ≡ Sync k body → P (record { clock = Some (clock d k); body = sync_body d names x k body })) → AllByRecursion P (signal_always d names x)
 unfolding signal_always
-signal_always_holds P d names x combined clocked = by (drive d x) refl
+signal_always_holds P d names x comb_drive clocked = by (drive d x) refl
   where
     by : (r : Drive) → drive d x ≡ r → AllByRecursion P (always_by d names x r)
-    by Given e = tt
-    by Held e = tt
-    by (Equal value) e = tt
-    by (Combined body) e = (combined body e, tt)
-    by (Clocked k body) e = (clocked k body e, tt)
+    by Input e = tt
+    by Undriven e = tt
+    by (CombAssign value) e = tt
+    by (CombBlock body) e = (comb_drive body e, tt)
+    by (Sync k body) e = (clocked k body e, tt)
 
-pub blocks_hold : (P : VAlways → Type 0) (d : Design) (names : List Name) → ((x : ℕ) (body : List StmtId) → x < length d.signals → drive d x ≡ Combined body → P (record { clock = None; body = combined_body d names x body }))
-    → ((x k : ℕ) (body : List StmtId) → x < length d.signals → drive d x ≡ Clocked k body → P (record { clock = Some (clock d k); body = clocked_body d names x k body }))
+pub blocks_hold : (P : VAlways → Type 0) (d : Design) (names : List Name) → ((x : ℕ) (body : List StmtId) → x < length d.signals → drive d x ≡ CombBlock body → P (record { clock = None; body = comb_body d names x body }))
+    → ((x k : ℕ) (body : List StmtId) → x < length d.signals → drive d x ≡ Sync k body → P (record { clock = Some (clock d k); body = sync_body d names x k body }))
     → AllByRecursion P (emitted d names).always
 unfolding emitted
-blocks_hold P d names combined clocked =
+blocks_hold P d names comb_drive clocked =
     each_at_places P (signal_always d names) 0 d.signals
-    (λ j p q. signal_always_holds P d names j (λ body e. combined j body (omega arith) e) (λ k body e. clocked j k body (omega arith) e))
+    (λ j p q. signal_always_holds P d names j (λ body e. comb_drive j body (omega arith) e) (λ k body e. clocked j k body (omega arith) e))
 
-pub each_always : (P : VAlways → Bool) (d : Design) (names : List Name) → ((x : ℕ) (body : List StmtId) → x < length d.signals → drive d x ≡ Combined body → P (record { clock = None; body = combined_body d names x body }) ≡ true)
-    → ((x k : ℕ) (body : List StmtId) → x < length d.signals → drive d x ≡ Clocked k body → P (record { clock = Some (clock d k); body = clocked_body d names x k body }) ≡ true)
+pub each_always : (P : VAlways → Bool) (d : Design) (names : List Name) → ((x : ℕ) (body : List StmtId) → x < length d.signals → drive d x ≡ CombBlock body → P (record { clock = None; body = comb_body d names x body }) ≡ true)
+    → ((x k : ℕ) (body : List StmtId) → x < length d.signals → drive d x ≡ Sync k body → P (record { clock = Some (clock d k); body = sync_body d names x k body }) ≡ true)
     → IsTrue (list_all P (emitted d names).always)
-each_always P d names combined clocked = all_from_each P (emitted d names).always (blocks_hold (λ a. P a ≡ true) d names combined clocked)
+each_always P d names comb_drive clocked = all_from_each P (emitted d names).always (blocks_hold (λ a. P a ≡ true) d names comb_drive clocked)
 
 -- ---- what may be read
 
@@ -728,17 +728,17 @@ role_within d x n e = by (drives_block x (circuit_of d).comb) e
         let within = sync_within x 0 n (domains_from d 0 d.domains) (circuit.idle_role (circuit_of d) x) (idle_other (circuit_of d) x n) t in
         omega (arith, within, domains-length d 0 d.domains)
 
-drive_clocked : (d : Design) (x n : ℕ) (body : List StmtId) (r : circuit.Role) → drive_by d x r ≡ Clocked n body → r ≡ circuit.Sync n
+drive_clocked : (d : Design) (x n : ℕ) (body : List StmtId) (r : circuit.Role) → drive_by d x r ≡ Sync n body → r ≡ circuit.Sync n
 drive_clocked d x n body circuit.Input e = absurd cc
 drive_clocked d x n body circuit.Undriven e = absurd cc
 drive_clocked d x n body circuit.Comb e = absurd (by (single d (own d x d.comb)) e)
   where
-    by : (o : Option ExprId) → combined (own d x d.comb) o ≡ Clocked n body → ⊥
+    by : (o : Option ExprId) → comb_drive (own d x d.comb) o ≡ Sync n body → ⊥
     by None t = cc
     by (Some value) t = cc
 drive_clocked d x n body (circuit.Sync k) e = let same : k ≡ n = cc in ap circuit.Sync same
 
-pub clocked_within : (d : Design) (x n : ℕ) (body : List StmtId) → drive d x ≡ Clocked n body → n < length d.domains
+pub clocked_within : (d : Design) (x n : ℕ) (body : List StmtId) → drive d x ≡ Sync n body → n < length d.domains
 unfolding drive
 clocked_within d x n body e = role_within d x n (drive_clocked d x n body (circuit.role (circuit_of d) x) e)
 

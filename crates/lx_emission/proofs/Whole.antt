@@ -15,8 +15,8 @@ use Rattle.lx_fhdl.specs.declared.design.Design.{Design}
 use Rattle.lx_fhdl.proofs.Designs as design
 use Rattle.lx_emission.specs.Naming.{net, nets_before, node_net, clock, NamesFit}
 use Rattle.lx_emission.specs.Nodes.{node_shape, operand, node_text}
-use Rattle.lx_emission.specs.Signals.{Drive, Given, Held, Equal, Combined, Clocked, drive, init_of, shape_of_signal, reset_of_signal, reset_text, signal_net}
-use Rattle.lx_emission.specs.Emission.{signal_port, is_given, emitted}
+use Rattle.lx_emission.specs.Signals.{Drive, Input, Undriven, CombAssign, CombBlock, Sync, drive, init_of, shape_of_signal, reset_of_signal, reset_text, signal_net}
+use Rattle.lx_emission.specs.Emission.{signal_port, is_input, emitted}
 use Rattle.lx_emission.specs.Emits.{CanBeEmitted}
 use Rattle.lx_emission.proofs.Setting.{IsNetNode, TermsAreSmall, driver_by}
 use Rattle.lx_emission.proofs.Names.{domain_at, each_of}
@@ -117,11 +117,11 @@ cycle_meaning d names can =
       inits = no_inits d names;
       assigns = each_assign (λ a. assign_fits m a) d names
           (λ k is. assigned_fits m (node_net d.exprs k) (node_text d names k) (readable_net m (node_net d.exprs k) (lets.nodes k is)) (is_wire (is_register m (node_net d.exprs k)) (is_register_node d names keeps fit k is)) (node_text_fits d names m keeps can.lowered lets small k is))
-          (λ x lt e. assigned_fits m (net names x) (reset_text d x) (readable_net m (net names x) (lets.signals x lt)) (wire_of d names x can lt Held e refl) (reset_text_fits d names m keeps x lt))
-          (λ x value lt e. assigned_fits m (net names x) (operand d names value.place) (readable_net m (net names x) (lets.signals x lt)) (wire_of d names x can lt (Equal value) e refl) (operands.each value.place (equal_side d x value keeps can.lowered e).within));
+          (λ x lt e. assigned_fits m (net names x) (reset_text d x) (readable_net m (net names x) (lets.signals x lt)) (wire_of d names x can lt Undriven e refl) (reset_text_fits d names m keeps x lt))
+          (λ x value lt e. assigned_fits m (net names x) (operand d names value.place) (readable_net m (net names x) (lets.signals x lt)) (wire_of d names x can lt (CombAssign value) e refl) (operands.each value.place (equal_side d x value keeps can.lowered e).within));
       blocks = each_always (λ a. always_fits m a) d names
-          (λ x body lt e. combined_fits d names m x keeps can.lowered lets operands (register_of d names x can lt (Combined body) e refl) lt (reset_text_fits d names m keeps x lt) body e)
-          (λ x k body lt e. let input = clock_is_input d names keeps fit k (clocked_within d x k body e) in clocked_fits d names m x keeps can.lowered lets operands (register_of d names x can lt (Clocked k body) e refl) lt (reset_text_fits d names m keeps x lt) k body e input.0 input.1);
+          (λ x body lt e. combined_fits d names m x keeps can.lowered lets operands (register_of d names x can lt (CombBlock body) e refl) lt (reset_text_fits d names m keeps x lt) body e)
+          (λ x k body lt e. let input = clock_is_input d names keeps fit k (clocked_within d x k body e) in clocked_fits d names m x keeps can.lowered lets operands (register_of d names x can lt (Sync k body) e refl) lt (reset_text_fits d names m keeps x lt) k body e input.0 input.1);
       no_loop = no_loop d names keeps can.lowered can.order fit m are;
     }
 
@@ -134,11 +134,11 @@ clock_lawful d keeps k lt =
     subst (λ (n : Name). IsTrue (is_name n)) (sym at.clock) (clock_name_lawful at.domain.name is.name)
 
 init_lawful : (d : Design) → Keeps d → (x : ℕ) → x < length d.signals → (g : Drive) → IfSome (init_of (shape_of_signal d x) (reset_of_signal d x) g) IsValue
-init_lawful d keeps x lt Given = tt
-init_lawful d keeps x lt Held = tt
-init_lawful d keeps x lt (Equal value) = tt
-init_lawful d keeps x lt (Combined body) = reset_value_lawful d keeps x lt
-init_lawful d keeps x lt (Clocked k body) = reset_value_lawful d keeps x lt
+init_lawful d keeps x lt Input = tt
+init_lawful d keeps x lt Undriven = tt
+init_lawful d keeps x lt (CombAssign value) = tt
+init_lawful d keeps x lt (CombBlock body) = reset_value_lawful d keeps x lt
+init_lawful d keeps x lt (Sync k body) = reset_value_lawful d keeps x lt
 
 signal_lawful : (d : Design) (names : List Name) → Keeps d → NamesFit d names → (x : ℕ) → x < length d.signals → IsNet (signal_net d names x)
 unfolding signal_net
@@ -148,12 +148,12 @@ node_lawful : (d : Design) → TermsAreSmall d → (k : ℕ) → IsNetNode d k �
 node_lawful d small k is = record { name = node_name_lawful (nets_before d.exprs k); bits = (small.each k (net_node_within d k is)).some; init = tt }
 
 -- an input has no first value
-given_init : (s : Shape) (z : ℤ) (g : Drive) → is_given g ≡ true → init_of s z g ≡ None
-given_init s z Given e = refl
-given_init s z Held e = refl
-given_init s z (Equal value) e = refl
-given_init s z (Combined body) e = absurd cc
-given_init s z (Clocked k body) e = absurd cc
+given_init : (s : Shape) (z : ℤ) (g : Drive) → is_input g ≡ true → init_of s z g ≡ None
+given_init s z Input e = refl
+given_init s z Undriven e = refl
+given_init s z (CombAssign value) e = refl
+given_init s z (CombBlock body) e = absurd cc
+given_init s z (Sync k body) e = absurd cc
 
 port_lawful : (d : Design) (names : List Name) → Keeps d → NamesFit d names → (x : ℕ) → x < length d.signals → IsPort (signal_port d names x)
 unfolding signal_net
