@@ -1,4 +1,6 @@
+pub mod Bits
 pub mod Declared
+pub mod Fitting
 pub mod Frames
 pub mod Owns
 pub mod Settle

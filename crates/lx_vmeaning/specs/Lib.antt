@@ -1,6 +1,7 @@
 pub mod Blocks
 pub mod Cycle
 pub mod Driving
+pub mod Fitting
 pub mod Loops
 pub mod Meaning
 pub mod Naming

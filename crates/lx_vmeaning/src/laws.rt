@@ -1,5 +1,6 @@
 //! The laws of settling and of views, over all modules that have a cycle meaning; and values worked by hand.
 
+ghost use Rattle.lx_vmeaning.specs.Fitting.{IsVBitsLaw, IsVFittingLaw};
 ghost use Rattle.lx_vmeaning.specs.Settling.{IsVSettlingLaw, IsVViewLaw};
 ghost use Rattle.lx_vmeaning.specs.Worked.{AreWorked};
 
@@ -11,6 +12,14 @@ pub fn settling_law()
 /// A module that has a cycle meaning has exactly one view after every list of steps.
 pub fn view_law()
     ensures { IsVViewLaw }
+{}
+
+/// Patterns fit: in every view each word is below 2 to its memory's bits, and each net below 2 to its own, an input
+/// where what it is given is. The bits of an expression, where what it reads fits, are below 2 to each context that
+/// is as wide as the expression.
+pub fn fitting_law()
+    ensures views { IsVFittingLaw }
+    ensures bits { IsVBitsLaw }
 {}
 
 /// Bits of expressions in narrower and wider, signed and unsigned contexts are those worked by hand.
