@@ -1,6 +1,6 @@
 use Rattle.std.proofs.Common.{◌≡◌, ◌≤◌, drop, fold}
 use Rattle.lx_token.specs.Numbers.{digits_value, with_digit, greatest_number}
-use Rattle.lx_token.proofs.numbers.fits.Given as goal
+use Rattle.lx_token.proofs.numbers.value_of.Given as goal
 
 abbrev pub invariant-loop-byte : goal.invariant-loop-byte
 invariant-loop-byte l =
