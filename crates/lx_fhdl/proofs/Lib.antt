@@ -3,6 +3,7 @@ pub mod Designs
 pub mod Fitting
 pub mod Frames
 pub mod Instance
+pub mod Kept
 pub mod Machine
 pub mod Meanings
 pub mod Operators

@@ -1,15 +1,17 @@
 -- A tree without a fault has a small shape, and its value fits it.
-use Rattle.std.proofs.Common.{◌≡◌, ℕ, ◌-◌, ◌^◌, ◌<◌, ◌≤◌, Bool, true, false, ◌||◌, List, [], ◌∷◌, refl, ap, arith, zero, suc}
+use Rattle.std.proofs.Common.{◌≡◌, ℕ, ◌-◌, ◌^◌, ◌<◌, ◌≤◌, Bool, true, false, List, [], ◌∷◌, arith, zero, suc}
 use Rattle.std.specs.Prelude.{ℤ, pos, None}
+use Rattle.std.proofs.lemmas.Bool.{or_left, or_right}
 use Rattle.std.proofs.lemmas.Nat.{pow_pos, pow-add, mul-add-lt}
 use Rattle.lx_num.specs.declared.Shape.{Shape}
-use Rattle.lx_num.specs.Ints.{modulo, FitsBits, Fits}
+use Rattle.lx_num.specs.Ints.{modulo, FitsBits, Fits, unsigned}
 use Rattle.lx_num.proofs.Ints.{modulo-below}
 use Rattle.lx_num.proofs.Ranges.{fits_pos, fits_wider, FitsBits-wrap_bits}
 use Rattle.lx_circuit.specs.Terms as term
 use Rattle.lx_circuit.specs.Terms.{Term, Terms, NoTerm, MoreTerms}
-use Rattle.lx_circuit.specs.Shapes.{Shapes, shape_of, shapes_of, fault_of, faults_of, joined, joined_bits, bits_sum, some_signed, widest, pick_shape, unary_shape, too_wide, or_else, index_fault, binary_fault, replicate_fault, slice_fault, pick_fault}
-use Rattle.lx_circuit.specs.Values.{Values, value_of, values_of, cat_pattern, nth_or_last, count_of}
+use Rattle.lx_circuit.specs.Shapes.{Shapes, shape_of, shapes_of, fault_of, faults_of, joined, joined_bits, bits_sum, some_signed, widest, pick_shape, unary_shape, too_wide, or_else, index_fault, binary_fault, replicate_fault, slice_fault, pick_fault, constant_fault}
+use Rattle.lx_circuit.specs.Places.{Values, At, Word}
+use Rattle.lx_circuit.specs.Values.{value_of, values_of, cat_pattern, nth_or_last, count_of}
 use Rattle.lx_fhdl.specs.Keeping.{EachOf}
 use Rattle.lx_fhdl.specs.Nodes.{IsSmall}
 use Rattle.lx_fhdl.proofs.Arena.{constant_small, replicate_small, slice_inside}
@@ -32,6 +34,7 @@ abbrev mutual
   HasAllParts (term.Replicate a count) = HasAllParts a
   HasAllParts (term.Slice a low high) = HasAllParts a
   HasAllParts (term.Pick items index) = IsSome items × (HaveAllParts items × HasAllParts index)
+  HasAllParts (term.Fetch memory width at) = HasAllParts at
 
   pub HaveAllParts : Terms → Type 0
   HaveAllParts NoTerm = Unit {0}
@@ -98,6 +101,7 @@ mutual
         some = widest_some s (some_signed (shapes_of s items)) items h.0 (trees_small s m items h.1.0 (none_left (faults_of s items) (or_else (fault_of s index) own) e));
         most = not_wide (pick_shape (shapes_of s items)).bits wide;
       }
+  tree_small s m (term.Fetch memory width at) h e = constant_small (unsigned width) (none_right (fault_of s at) (constant_fault (unsigned width)) e)
 
   pub trees_small : (s : Shapes) → SmallSignals s → (ts : Terms) → HaveAllParts ts → faults_of s ts ≡ None → EachOf IsSmall (shapes_of s ts)
   trees_small s m NoTerm h e = tt
@@ -120,17 +124,10 @@ abbrev pub EachFits : List Shape → List ℤ → Type 0
 EachFits (a ∷ as_) (z ∷ zs) = Fits a z × EachFits as_ zs
 EachFits _ _ = Unit {0}
 
-or_left_true : (s t : Bool) → s ≡ true → (s || t) ≡ true
-or_left_true s t e = ap (λ (b : Bool). b || t) e
-
-or_right_true : (s t : Bool) → t ≡ true → (s || t) ≡ true
-or_right_true true t e = refl
-or_right_true false t e = e
-
 item_fits : (s : Shapes) (v : Values) (some : Bool) (w : ℕ) (t : Term) (ts : Terms) → widest some (shapes_of s (MoreTerms t ts)) ≤ w → (some_signed (shapes_of s (MoreTerms t ts)) ≡ true → some ≡ true) → Fits (shape_of s t) (value_of s v t) → FitsBits w some (value_of s v t)
 item_fits s v some w t ts h g f =
     fits_wider (joined_bits some (shape_of s t)) w some (value_of s v t) (omega arith)
-    (fits_joined (shape_of s t).bits (shape_of s t).signed some (value_of s v t) (λ e. g (or_left_true (shape_of s t).signed (some_signed (shapes_of s ts)) e)) f)
+    (fits_joined (shape_of s t).bits (shape_of s t).signed some (value_of s v t) (λ e. g (or_left (shape_of s t).signed (some_signed (shapes_of s ts)) e)) f)
 
 items_fit : (s : Shapes) (v : Values) (some : Bool) (w : ℕ) (ts : Terms) (z : ℤ) (n : ℕ) → FitsBits w some z → widest some (shapes_of s ts) ≤ w → (some_signed (shapes_of s ts) ≡ true → some ≡ true)
     → EachFits (shapes_of s ts) (values_of s v ts) → FitsBits w some (nth_or_last z (values_of s v ts) n)
@@ -140,12 +137,12 @@ items_fit s v some w (MoreTerms t ts) z (suc n) f h g k =
     items_fit s v some w ts (value_of s v t) n
     (item_fits s v some w t ts h g k.0)
     (omega arith)
-    (λ e. g (or_right_true (shape_of s t).signed (some_signed (shapes_of s ts)) e))
+    (λ e. g (or_right (shape_of s t).signed (some_signed (shapes_of s ts)) e))
     k.1
 
 mutual
   -- the value of a tree without a fault fits its shape
-  pub tree_fits : (s : Shapes) (v : Values) → SmallSignals s → ((x : ℕ) → Fits (s x) (v x)) → (t : Term) → HasAllParts t → fault_of s t ≡ None → Fits (shape_of s t) (value_of s v t)
+  pub tree_fits : (s : Shapes) (v : Values) → SmallSignals s → ((x : ℕ) → Fits (s x) (v (At x))) → (t : Term) → HasAllParts t → fault_of s t ≡ None → Fits (shape_of s t) (value_of s v t)
   tree_fits s v m f (term.Constant value a) h e = FitsBits-wrap_bits a.bits a.signed value (constant_small a e).some
   tree_fits s v m f (term.Signal x) h e = f x
   tree_fits s v m f (term.Unary op a) h e =
@@ -175,8 +172,10 @@ mutual
       let w = widest some (shapes_of s items) in
       items_fit s v some w items (pos 0) (count_of (value_of s v index)) (fits_zero w some) (omega arith) (λ g. g)
       (trees_fit s v m f items h.1.0 (none_left (faults_of s items) (or_else (fault_of s index) own) e))
+  tree_fits s v m f (term.Fetch memory width at) h e =
+      FitsBits-wrap_bits width false (v (Word memory (count_of (value_of s v at)))) (constant_small (unsigned width) (none_right (fault_of s at) (constant_fault (unsigned width)) e)).some
 
-  pub trees_fit : (s : Shapes) (v : Values) → SmallSignals s → ((x : ℕ) → Fits (s x) (v x)) → (ts : Terms) → HaveAllParts ts → faults_of s ts ≡ None → EachFits (shapes_of s ts) (values_of s v ts)
+  pub trees_fit : (s : Shapes) (v : Values) → SmallSignals s → ((x : ℕ) → Fits (s x) (v (At x))) → (ts : Terms) → HaveAllParts ts → faults_of s ts ≡ None → EachFits (shapes_of s ts) (values_of s v ts)
   trees_fit s v m f NoTerm h e = tt
   trees_fit s v m f (MoreTerms t ts) h e = (
     tree_fits s v m f t h.0 (none_left (fault_of s t) (faults_of s ts) e),

@@ -2,6 +2,7 @@ pub mod Below
 pub mod Designs
 pub mod Instance
 pub mod Keeping
+pub mod Kept
 pub mod Laws
 pub mod Lowered
 pub mod Nodes

@@ -12,7 +12,7 @@ pub mod stmts;
 #[cfg(test)]
 mod tests;
 
-pub use design::{Design, Domain, Signal, SyncPart};
+pub use design::{Design, Domain, Memory, Port, PortMode, Signal, SyncPart};
 pub use eval::{eval_into, eval_node};
 pub use exprs::{Expr, ExprId, Exprs, InExprs, SigId};
 pub use places::{BankWish, Fix, Numbered, Placement, Region, RegionWish, Wishes};
