@@ -3,6 +3,7 @@ pub mod Cases
 pub mod Fitting
 pub mod Frames
 pub mod Locality
+pub mod Orders
 pub mod Runs
 pub mod Settle
 pub mod Views

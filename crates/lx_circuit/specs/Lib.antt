@@ -12,3 +12,6 @@ pub mod Statements
 pub mod Terms
 pub mod Values
 pub mod Worked
+pub mod WorkedMemories
+pub mod WorkedReads
+pub mod WorkedSteps

@@ -4,6 +4,9 @@ ghost use Rattle.lx_circuit.specs.Locality.{IsLocal};
 ghost use Rattle.lx_circuit.specs.Runs.{IsChainLaw, IsExtensionLaw};
 ghost use Rattle.lx_circuit.specs.Settling.{IsFittingLaw, IsSettlingLaw, IsViewLaw};
 ghost use Rattle.lx_circuit.specs.Worked.{AreWorked};
+ghost use Rattle.lx_circuit.specs.WorkedMemories.{AreRemembered};
+ghost use Rattle.lx_circuit.specs.WorkedReads.{AreRead};
+ghost use Rattle.lx_circuit.specs.WorkedSteps.{AreStepped};
 
 /// A circuit in which an order of reads exists has exactly one settled valuation, under each state and
 /// all inputs.
@@ -42,4 +45,19 @@ pub fn chain_law()
 /// Values, shapes, faults and assignments are those worked by hand.
 pub fn circuits_are_worked()
     ensures { AreWorked }
+{}
+
+/// Roles, settled values and steps of a circuit of two domains are those worked by hand.
+pub fn steps_are_worked()
+    ensures { AreStepped }
+{}
+
+/// What statements, words and ports read is what was worked by hand.
+pub fn reads_are_worked()
+    ensures { AreRead }
+{}
+
+/// A memory with two ports has the words, and shows what was worked by hand, in each mode.
+pub fn memories_are_worked()
+    ensures { AreRemembered }
 {}

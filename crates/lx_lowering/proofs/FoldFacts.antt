@@ -9,9 +9,9 @@ use Rattle.lx_num.specs.declared.Shape.{Shape}
 use Rattle.lx_num.specs.Ints.{modulo, read_bits, wrapped, FitsBits}
 use Rattle.lx_num.proofs.Ints.{modulo-below}
 use Rattle.lx_num.proofs.Ranges.{FitsBits-read_bits, read_bits-modulo, wrap_bits_same}
-use Rattle.lx_circuit.specs.Terms.{Term, Terms, Constant, Signal, Unary, Binary, Mux, Cat, Replicate, Slice, Pick, NoTerm, MoreTerms}
+use Rattle.lx_circuit.specs.Places.{Place, Values}
+use Rattle.lx_circuit.specs.Terms.{Term, Terms, Constant, Signal, Unary, Binary, Mux, Cat, Replicate, Slice, Pick, Fetch, NoTerm, MoreTerms}
 use Rattle.lx_circuit.specs.Shapes.{Shapes, constant_fault}
-use Rattle.lx_circuit.specs.Values.{Values}
 use Rattle.lx_circuit.specs.Statements.{Target, Whole, Part, CatTarget, PickTarget, Stmt, Assign, If, Case, NoBranch, Branch, Block, Done, Then, taken_block, laid_over, after_pieces, result, is_target, drives, drives_block}
 use Rattle.lx_circuit.specs.Reads.{names, some_names, target_names, reads, reads_block}
 use Rattle.lx_circuit.proofs.Frames.{block_same}
@@ -25,7 +25,7 @@ use Rattle.lx_lowering.specs.Lowering.{BlockKeeps}
 -- ---- what reads nothing
 
 mutual
-  names_nothing : (y : ℕ) (t : Term) → names_none t ≡ true → names y t ≡ false
+  names_nothing : (y : Place) (t : Term) → names_none t ≡ true → names y t ≡ false
   names_nothing y (Constant value a) e = refl
   names_nothing y (Signal x) e = absurd (cc)
   names_nothing y (Unary o a) e = names_nothing y a e
@@ -40,8 +40,9 @@ mutual
   names_nothing y (Pick items index) e =
       let p = and_parts (all_name_none items) (names_none index) e in
       or_from (some_names y items) (names y index) (some_name_nothing y items p.0) (names_nothing y index p.1)
+  names_nothing y (Fetch m width i) e = absurd (cc)
 
-  some_name_nothing : (y : ℕ) (ts : Terms) → all_name_none ts ≡ true → some_names y ts ≡ false
+  some_name_nothing : (y : Place) (ts : Terms) → all_name_none ts ≡ true → some_names y ts ≡ false
   some_name_nothing y NoTerm e = refl
   some_name_nothing y (MoreTerms t ts) e = let p = and_parts (names_none t) (all_name_none ts) e in or_from (names y t) (some_names y ts) (names_nothing y t p.0) (some_name_nothing y ts p.1)
 
@@ -52,14 +53,14 @@ both_for x c b rest e =
     let q = and_parts (are_for x b && true) (are_for x rest) p.1 in
     (p.0, (and_parts (are_for x b) true q.0).0, q.1)
 
-plain_names : (x y : ℕ) (t : Target) → is_plain_target x t ≡ true → target_names y t ≡ false
+plain_names : (x : ℕ) (y : Place) (t : Target) → is_plain_target x t ≡ true → target_names y t ≡ false
 plain_names x y (Whole z) f = refl
 plain_names x y (Part z low len) f = refl
 plain_names x y (CatTarget parts) f = absurd (cc)
 plain_names x y (PickTarget items index) f = absurd (cc)
 
 mutual
-  stmt_reads_nothing : (x z y : ℕ) (st : Stmt) → is_for x st ≡ true → reads_none st ≡ true → reads z y st ≡ false
+  stmt_reads_nothing : (x z : ℕ) (y : Place) (st : Stmt) → is_for x st ≡ true → reads_none st ≡ true → reads z y st ≡ false
   stmt_reads_nothing x z y (Assign t e) f r =
       ap (λ b. is_target z t && b) (or_from (names y e) (target_names y t) (names_nothing y e r) (plain_names x y t f)) ∙ and-false (is_target z t)
   stmt_reads_nothing x z y (If NoBranch rest) f r = absurd (cc)
@@ -71,7 +72,7 @@ mutual
       rw (names_nothing y c q.0, reads_nothing x z y b both.1 (and_parts (block_reads_none b) true q.1).0, reads_nothing x z y rest both.2 p.1) refl
   stmt_reads_nothing x z y (Case on arms rest) f r = absurd (cc)
 
-  reads_nothing : (x z y : ℕ) (b : Block) → are_for x b ≡ true → block_reads_none b ≡ true → reads_block z y b ≡ false
+  reads_nothing : (x z : ℕ) (y : Place) (b : Block) → are_for x b ≡ true → block_reads_none b ≡ true → reads_block z y b ≡ false
   reads_nothing x z y Done f r = refl
   reads_nothing x z y (Then st ss) f r =
       let both = and_parts (is_for x st) (are_for x ss) f in
@@ -167,7 +168,7 @@ folded_drives s x y start b f =
     by_fold s x start b (λ c. drives_block y c ≡ drives_block y b) refl
     (λ d r. or-false (nat_eq x y) ∙ sym (for_drives x y b f ∙ (rw d (and-true (nat_eq x y)))))
 
-pub folded_reads : (s : Shapes) (x z y : ℕ) (start : ℤ) (b : Block) → reads_block z y (folded s x start b) ≡ true → reads_block z y b ≡ true
+pub folded_reads : (s : Shapes) (x z : ℕ) (y : Place) (start : ℤ) (b : Block) → reads_block z y (folded s x start b) ≡ true → reads_block z y b ≡ true
 folded_reads s x z y start b =
     by_fold s x start b (λ c. reads_block z y c ≡ true → reads_block z y b ≡ true) (λ e. e)
     (λ d r e. absurd (let n : ((nat_eq x z && false) || false) ≡ false = or-false (nat_eq x z && false) ∙ and-false (nat_eq x z) in cc))

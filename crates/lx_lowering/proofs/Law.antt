@@ -1,8 +1,8 @@
 -- The law of lowering: the same runs, plain statements, constants where they read nothing, and an order of reads where there was one.
 use Rattle.std.proofs.Common.{ℕ, ◌<◌, length}
 use Rattle.lx_num.specs.Ints.{Fits}
+use Rattle.lx_circuit.specs.Places.{Values, At}
 use Rattle.lx_circuit.specs.Shapes.{Shapes}
-use Rattle.lx_circuit.specs.Values.{Values}
 use Rattle.lx_circuit.specs.Circuit.{Circuit, shapes}
 use Rattle.lx_fhdl.specs.Nodes.{IsSmall}
 use Rattle.lx_lowering.specs.Lowering.{CanBeLowered, Lowers, lowered}
@@ -23,7 +23,7 @@ shape_laws_of s n small = record {
   lower_names = λ y t k e. lower_names s y t e;
 }
 
-term_laws_of : (s : Shapes) (n : ℕ) (v : Values) → ((x : ℕ) → x < n → IsSmall (s x)) → ((x : ℕ) → x < n → Fits (s x) (v x)) → TermLaws s n v
+term_laws_of : (s : Shapes) (n : ℕ) (v : Values) → ((x : ℕ) → x < n → IsSmall (s x)) → ((x : ℕ) → x < n → Fits (s x) (v (At x))) → TermLaws s n v
 term_laws_of s n v small fits = record {
   small = small;
   fits = fits;

@@ -3,9 +3,10 @@ use Rattle.std.proofs.Common.{◌≡◌, ℕ, ◌+◌, ◌≤◌, Bool, true, fa
 use Rattle.std.proofs.Math.Bool.{or-false, and-true, and-false, or_assoc, and-or_distrib_left}
 use Rattle.std.proofs.lemmas.Bool.{and_parts, and_from, cond_both}
 use Rattle.std.proofs.lemmas.List.{append-nil}
+use Rattle.lx_circuit.specs.Places.{Place, Values}
 use Rattle.lx_circuit.specs.Terms.{Term}
 use Rattle.lx_circuit.specs.Shapes.{Shapes}
-use Rattle.lx_circuit.specs.Values.{Values, value_of, is_zero}
+use Rattle.lx_circuit.specs.Values.{value_of, is_zero}
 use Rattle.lx_circuit.specs.Statements.{Target, Whole, Part, CatTarget, PickTarget, Stmt, Assign, If, Case, Branches, NoBranch, Branch, Block, Done, Then, Piece, pieces, taken, taken_block, after_pieces, is_target, drives, drives_block}
 use Rattle.lx_circuit.specs.Reads.{names, target_names, reads, reads_block}
 use Rattle.lx_circuit.proofs.Cases.{by_test, after_append, same_choice}
@@ -167,11 +168,11 @@ mutual
 
 -- ---- what they read
 
-pub reads_append : (x y : ℕ) (a b : Block) → reads_block x y (append a b) ≡ (reads_block x y a || reads_block x y b)
+pub reads_append : (x : ℕ) (y : Place) (a b : Block) → reads_block x y (append a b) ≡ (reads_block x y a || reads_block x y b)
 reads_append x y Done b = refl
 reads_append x y (Then st ss) b = ap (λ z. reads x y st || z) (reads_append x y ss b) ∙ sym (or_assoc (reads x y st) (reads_block x y ss) (reads_block x y b))
 
-lone_reads : (x y : ℕ) (c : Term) (b rest : Block) → reads_block x y (lone_if c b rest) ≡ ((names y c && (drives_block x b || drives_block x rest)) || (reads_block x y b || reads_block x y rest))
+lone_reads : (x : ℕ) (y : Place) (c : Term) (b rest : Block) → reads_block x y (lone_if c b rest) ≡ ((names y c && (drives_block x b || drives_block x rest)) || (reads_block x y b || reads_block x y rest))
 lone_reads x y c Done Done = rw (and-false (names y c)) refl
 lone_reads x y c Done (Then t ts) = or-false ((names y c && drives_block x (Then t ts)) || reads_block x y (Then t ts))
 lone_reads x y c (Then t ts) rest = or-false ((names y c && (drives_block x (Then t ts) || drives_block x rest)) || (reads_block x y (Then t ts) || reads_block x y rest))
@@ -180,7 +181,7 @@ own_drives : (x : ℕ) (b : Block) → is_flat_block b ≡ true → drives_block
 own_drives x b f = split_drives x x b f ∙ ap (λ z. z && drives_block x b) (eq-eqb x x refl)
 
 mutual
-  stmt_same_reads : (x y : ℕ) (st : Stmt) → is_flat st ≡ true → reads_block x y (split x st) ≡ reads x y st
+  stmt_same_reads : (x : ℕ) (y : Place) (st : Stmt) → is_flat st ≡ true → reads_block x y (split x st) ≡ reads x y st
   stmt_same_reads x y (Assign t e) f =
       by_test (is_target x t)
       (λ d. rw d (rw d (or-false (names y e || target_names y t))))
@@ -193,14 +194,14 @@ mutual
       ∙ (rw (own_drives x b both.0, own_drives x rest both.1, same_reads x y b both.0, same_reads x y rest both.1) refl)
   stmt_same_reads x y (Case on arms rest) f = absurd (cc)
 
-  pub same_reads : (x y : ℕ) (b : Block) → is_flat_block b ≡ true → reads_block x y (split_block x b) ≡ reads_block x y b
+  pub same_reads : (x : ℕ) (y : Place) (b : Block) → is_flat_block b ≡ true → reads_block x y (split_block x b) ≡ reads_block x y b
   same_reads x y Done f = refl
   same_reads x y (Then st ss) f =
       let both = and_parts (is_flat st) (is_flat_block ss) f in
       reads_append x y (split x st) (split_block x ss) ∙ (rw (stmt_same_reads x y st both.0, same_reads x y ss both.1) refl)
 
 -- what a signal reads in its own statements it reads in all
-pub split_reads : (x y : ℕ) (b : Block) → is_flat_block b ≡ true → reads_block x y (split_block x b) ≡ true → reads_block x y b ≡ true
+pub split_reads : (x : ℕ) (y : Place) (b : Block) → is_flat_block b ≡ true → reads_block x y (split_block x b) ≡ true → reads_block x y b ≡ true
 split_reads x y b f r = sym (same_reads x y b f) ∙ r
 
 -- ---- what they keep

@@ -11,9 +11,10 @@ use Rattle.lx_num.specs.Ints.{wrapped, floor_div, Fits, FitsBits}
 use Rattle.lx_num.proofs.Ranges.{pos_fits, wrap_bits_same, fits_pos, fits_magnitude}
 use Rattle.lx_num.proofs.Ints.{halves}
 use Rattle.lx_tables.specs.declared.operators.Op.TheVariants as op
+use Rattle.lx_circuit.specs.Places.{Place, Values, At}
 use Rattle.lx_circuit.specs.Terms.{Term, Constant, Binary}
 use Rattle.lx_circuit.specs.Shapes.{Shapes, shape_of, or_else}
-use Rattle.lx_circuit.specs.Values.{Values, value_of, is_zero, flag, count_of, nth_or_last}
+use Rattle.lx_circuit.specs.Values.{value_of, is_zero, flag, count_of, nth_or_last}
 use Rattle.lx_circuit.specs.Statements.{Target, Targets, Whole, Part, CatTarget, PickTarget, NoTarget, MoreTargets, Block, Done, Then, pieces, parts_pieces, items_pieces, taken_block, target_bits}
 use Rattle.lx_circuit.specs.Reads.{names}
 use Rattle.lx_fhdl.specs.Nodes.{IsSmall}
@@ -28,18 +29,18 @@ pub record ShapeLaws (s : Shapes) (n : ℕ) : Type 0 where
   pub term_small : (t : Term) → TermKeeps s n t → IsSmall (shape_of s t)
   pub lower_shape : (t : Term) → TermKeeps s n t → shape_of s (lower_term s t) ≡ shape_of s t
   pub lower_keeps : (t : Term) → TermKeeps s n t → TermKeeps s n (lower_term s t)
-  pub lower_names : (y : ℕ) (t : Term) → TermKeeps s n t → names y (lower_term s t) ≡ true → names y t ≡ true
+  pub lower_names : (y : Place) (t : Term) → TermKeeps s n t → names y (lower_term s t) ≡ true → names y t ≡ true
 
 -- and its value
 pub record TermLaws (s : Shapes) (n : ℕ) (v : Values) : Type 0 where
   pub small : (x : ℕ) → x < n → IsSmall (s x)
-  pub fits : (x : ℕ) → x < n → Fits (s x) (v x)
+  pub fits : (x : ℕ) → x < n → Fits (s x) (v (At x))
   pub term_small : (t : Term) → TermKeeps s n t → IsSmall (shape_of s t)
   pub term_fits : (t : Term) → TermKeeps s n t → Fits (shape_of s t) (value_of s v t)
   pub lower_shape : (t : Term) → TermKeeps s n t → shape_of s (lower_term s t) ≡ shape_of s t
   pub lower_value : (t : Term) → TermKeeps s n t → value_of s v (lower_term s t) ≡ value_of s v t
   pub lower_keeps : (t : Term) → TermKeeps s n t → TermKeeps s n (lower_term s t)
-  pub lower_names : (y : ℕ) (t : Term) → TermKeeps s n t → names y (lower_term s t) ≡ true → names y t ≡ true
+  pub lower_names : (y : Place) (t : Term) → TermKeeps s n t → names y (lower_term s t) ≡ true → names y t ≡ true
 
 pub shape_laws : (s : Shapes) (n : ℕ) (v : Values) → TermLaws s n v → ShapeLaws s n
 shape_laws s n v laws = record { small = laws.small; term_small = laws.term_small; lower_shape = laws.lower_shape; lower_keeps = laws.lower_keeps; lower_names = laws.lower_names }
