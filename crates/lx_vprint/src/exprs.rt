@@ -12,7 +12,7 @@ use lx_vtree::{ExprId, VExpr, expr};
 
 /// The text of the expression at a place.
 #[cycle(put)]
-pub fn put_expr(out: &mut Text, exprs: &Arena<VExpr>, id: ExprId) -> Result<(), NoMemory>
+pub(crate) fn put_expr(out: &mut Text, exprs: &Arena<VExpr>, id: ExprId) -> Result<(), NoMemory>
     requires { id.place < length exprs.now }
     ensures { OnOk result (out.new ≡ out.old ++ expr_text (tree_at exprs.now id.place)) }
 {

@@ -13,7 +13,11 @@ use lx_text::{List, NoMemory, Text};
 use lx_vtree::{ExprId, StmtId, VExpr, VStmt, VTarget, stmt};
 
 /// The text of what an assignment writes.
-pub fn put_target(out: &mut Text, exprs: &Arena<VExpr>, target: &VTarget) -> Result<(), NoMemory>
+pub(crate) fn put_target(
+    out: &mut Text,
+    exprs: &Arena<VExpr>,
+    target: &VTarget,
+) -> Result<(), NoMemory>
     requires { IsTrue (is_target_placed (length exprs.now) target.now) }
     ensures { OnOk result (out.new ≡ out.old ++ target_text (plant_target (tree_at exprs.now) target.now)) }
 {
@@ -88,7 +92,7 @@ fn put_if(out: &mut Text, exprs: &Arena<VExpr>, levels: u128, cond: ExprId) -> R
 
 /// The text of the statement at a place, with so many levels of indentation.
 #[cycle(put)]
-pub fn put_stmt(
+pub(crate) fn put_stmt(
     out: &mut Text,
     exprs: &Arena<VExpr>,
     stmts: &Arena<VStmt>,
@@ -148,7 +152,7 @@ fn put_else(
 
 /// The texts of the statements at these places, each lower than `bound`.
 #[cycle(put)]
-pub fn put_block(
+pub(crate) fn put_block(
     out: &mut Text,
     exprs: &Arena<VExpr>,
     stmts: &Arena<VStmt>,

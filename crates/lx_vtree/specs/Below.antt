@@ -2,7 +2,6 @@
 use Rattle.std.specs.Prelude.{ℕ, Bool, true, ◌&&◌, List, [], ◌∷◌, nat_lt}
 use Rattle.lx_arena.specs.declared.Id.{Id}
 use Rattle.lx_vtree.specs.declared.nodes.InExprs.{InExprs}
-use Rattle.lx_vtree.specs.declared.nodes.InStmts.{InStmts}
 use Rattle.lx_vtree.specs.declared.nodes.VExpr.{VExpr}
 use Rattle.lx_vtree.specs.declared.nodes.VExpr.TheVariants as node
 

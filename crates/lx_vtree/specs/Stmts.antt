@@ -1,6 +1,7 @@
 -- The tree of a statement that hangs at a place of an arena.
-use Rattle.std.specs.Prelude.{ℕ, zero, suc, Bool, true, false, ◌&&◌, List, [], ◌∷◌, Option, Some, None, slice_get, nat_lt, IfSome, IsTrue}
+use Rattle.std.specs.Prelude.{ℕ, Bool, true, ◌&&◌, List, [], ◌∷◌, Option, Some, None, slice_get, nat_lt, IfSome, IsTrue}
 use Rattle.lx_arena.specs.declared.Id.{Id}
+use Rattle.lx_arena.specs.Folds.{fold_at}
 use Rattle.lx_vtext.specs.Tree as tree
 use Rattle.lx_vtree.specs.declared.nodes.InStmts.{InStmts}
 use Rattle.lx_vtree.specs.declared.nodes.VStmt.{VStmt}
@@ -35,17 +36,9 @@ plant_stmt f g (stmt.When c so other) = tree.When (f c.place) (plant_block g so)
 abbrev pub no_stmt : tree.VStmt
 no_stmt = tree.Assign (tree.Whole []) true nowhere
 
-abbrev pub plant_some_stmt : (ℕ → tree.VExpr) → (ℕ → tree.VStmt) → Option VStmt → tree.VStmt
-plant_some_stmt f g None = no_stmt
-plant_some_stmt f g (Some s) = plant_stmt f g s
-
-abbrev pub stmt_within : (ℕ → tree.VExpr) → List VStmt → ℕ → ℕ → tree.VStmt
-stmt_within f nodes zero id = no_stmt
-stmt_within f nodes (suc n) id = plant_some_stmt f (stmt_within f nodes n) (slice_get nodes id)
-
 -- the tree at a place
-unfoldable pub stmt_at : (ℕ → tree.VExpr) → List VStmt → ℕ → tree.VStmt
-stmt_at f nodes id = stmt_within f nodes (suc id) id
+abbrev pub stmt_at : (ℕ → tree.VExpr) → List VStmt → ℕ → tree.VStmt
+stmt_at f = fold_at no_stmt (plant_stmt f)
 
 -- ---- places
 

@@ -1,5 +1,6 @@
 -- The tree of an expression that hangs at a place of an arena.
-use Rattle.std.specs.Prelude.{ℕ, zero, suc, List, [], ◌∷◌, Option, Some, None, slice_get}
+use Rattle.std.specs.Prelude.{ℕ, List, [], ◌∷◌}
+use Rattle.lx_arena.specs.Folds.{fold_at}
 use Rattle.lx_vtext.specs.Tree as tree
 use Rattle.lx_vtree.specs.declared.nodes.VExpr.{VExpr}
 use Rattle.lx_vtree.specs.declared.nodes.VExpr.TheVariants as node
@@ -27,14 +28,6 @@ plant f (node.ToUnsigned of) = tree.ToUnsigned (f of.place)
 abbrev pub nowhere : tree.VExpr
 nowhere = tree.Net []
 
-abbrev pub plant_some : (ℕ → tree.VExpr) → Option VExpr → tree.VExpr
-plant_some f None = nowhere
-plant_some f (Some e) = plant f e
-
-abbrev pub tree_within : List VExpr → ℕ → ℕ → tree.VExpr
-tree_within nodes zero id = nowhere
-tree_within nodes (suc n) id = plant_some (tree_within nodes n) (slice_get nodes id)
-
 -- the tree at a place
-unfoldable pub tree_at : List VExpr → ℕ → tree.VExpr
-tree_at nodes id = tree_within nodes (suc id) id
+abbrev pub tree_at : List VExpr → ℕ → tree.VExpr
+tree_at = fold_at nowhere plant

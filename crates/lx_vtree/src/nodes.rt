@@ -147,8 +147,8 @@ impl Node for VExpr {
     }
 }
 
-/// Whether all these places are lower than `n`.
-pub fn exprs_below(ids: &[ExprId], n: usize) -> bool
+// Whether all these places are lower than `n`.
+fn exprs_below(ids: &[ExprId], n: usize) -> bool
     ensures { result ≡ are_below ids.now n }
 {
     for id in ids {
@@ -181,8 +181,8 @@ impl Node for VStmt {
     }
 }
 
-/// Whether all these places are lower than `n`.
-pub fn stmts_below(ids: &[StmtId], n: usize) -> bool
+// Whether all these places are lower than `n`.
+pub(crate) fn stmts_below(ids: &[StmtId], n: usize) -> bool
     ensures { result ≡ are_stmts_below ids.now n }
 {
     for id in ids {
