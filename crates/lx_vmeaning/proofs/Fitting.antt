@@ -58,7 +58,7 @@ abbrev pub WordsFit : ℕ → (ℕ → ℕ) → Type 0
 WordsFit bits words = (k : ℕ) → words k < 2 ^ bits
 
 written : (depth bits : ℕ) (words : ℕ → ℕ) (k p : ℕ) → WordsFit bits words → p < 2 ^ bits → WordsFit bits (write_word depth words k p)
-written depth bits words k p h q j = by_depth (nat_lt k depth)
+written depth bits words k p h q j = by_depth _
   where
     by_depth : (b : Bool) → cond b (set_word words k p) words j < 2 ^ bits
     by_depth true = by_cond (nat_eq j k) p (words j) (2 ^ bits) q (h j)

@@ -3,5 +3,7 @@ pub mod Declared
 pub mod Fitting
 pub mod Frames
 pub mod Owns
+pub mod Ranks
 pub mod Settle
 pub mod Views
+pub mod Worked

@@ -6,6 +6,9 @@ pub mod Loops
 pub mod Meaning
 pub mod Naming
 pub mod Runs
+pub mod Samples
 pub mod Settling
 pub mod Widths
 pub mod Worked
+pub mod WorkedFaults
+pub mod WorkedRuns
