@@ -2,21 +2,26 @@
 use Rattle.std.proofs.Common.{◌≡◌, ℕ, zero, suc, ◌+◌, ◌-◌, ◌<◌, ◌≤◌, Bool, true, false, not, ◌&&◌, ◌||◌, List, [], ◌∷◌, ◌++◌, length, refl, sym, ap, subst, ◌∙◌, arith}
 use Rattle.std.specs.Prelude.{Option, Some, None, map, slice_get, slice_index_or, IfSome, nat_le, nat_lt, nat_eq, if◌then◌else◌}
 use Rattle.std.specs.Str.{bytes_eq}
-use Rattle.std.proofs.lemmas.Bool.{and_parts, eqb-true, le-leb, lt-ltb}
+use Rattle.std.proofs.lemmas.Bool.{and_parts, and_from, eqb-true, le-leb, lt-ltb}
 use Rattle.std.proofs.lemmas.Option.{slice_get_within}
 use Rattle.std.proofs.lemmas.Slice.Eq.{bytes_eq-Decides}
 use Rattle.lx_circuit.specs.Statements as tree
 use Rattle.lx_circuit.specs.Circuit as circuit
-use Rattle.lx_circuit.specs.Circuit.{Role, is_among, is_some_reset, sync_role, idle_role, role, made, nothing}
-use Rattle.lx_vtext.specs.Tree.{Name, VExpr, Net, Whole, Part, VTarget, VStmt, Assign, When, NoElse, VBlock, EndBlock, InBlock, VModule}
+use Rattle.lx_circuit.specs.Circuit.{Role, sync_role, read_role, idle_role, role, made}
+use Rattle.lx_vtext.specs.Tree.{Name, VExpr, Net, Whole, Part, VTarget, VStmt, Assign, When, NoElse, VBlock, VElse, EndBlock, InBlock, VAlways, VModule}
 use Rattle.lx_vmeaning.specs.Runs.{sizes, target_name, sets_stmt, sets_else, sets_block}
-use Rattle.lx_vmeaning.specs.Cycle.{is_net, is_input, is_readable, is_register, is_within, is_width, expr_fits, target_body_fits, always_fits, target_fits, stmt_fits, else_fits, block_fits, or_name, stmt_target, else_target, block_target}
+use Rattle.lx_vmeaning.specs.Naming.{is_input, is_register, is_within, names_fit, target_names, block_names, always_names}
+use Rattle.lx_vmeaning.specs.Widths.{right_fits, target_widths, block_widths, always_widths}
+use Rattle.lx_vmeaning.specs.Widths as width
+use Rattle.lx_vmeaning.specs.Blocks.{always_fits, target_fits, block_fits, or_name, stmt_target, else_target, block_target}
+use Rattle.lx_vmeaning.proofs.Owns.{is_width-of, alone_from_owns, right_from_owns}
 use Rattle.lx_fhdl.specs.Below.{ExprId, StmtId, all_stmts_below}
-use Rattle.lx_fhdl.specs.Stmts.{target_at, target_within, target_of, block_at, stmt_of, stmt_within, stmt_at}
+use Rattle.lx_fhdl.specs.Stmts.{target_at, block_at, stmt_at}
 use Rattle.lx_fhdl.specs.Designs as design
+use Rattle.lx_fhdl.proofs.Designs as fhdl
 use Rattle.lx_fhdl.specs.Designs.{term, stmt, block, shapes, stmts_of, made_of, domains_from, circuit_of}
 use Rattle.lx_fhdl.specs.Lowered.{is_plain_target, is_done, is_lone, is_for, branches_are_for, are_for, IsPlain, ArePlain, IsLowered}
-use Rattle.lx_fhdl.specs.Keeping.{Keeps, TargetStands, StmtStands, PartStands, IsDomain, HasResetPath, IsSignal, EachOf}
+use Rattle.lx_fhdl.specs.Keeping.{Keeps, TargetStands, StmtStands, PartStands, IsDomain, HasResetPath, IsReset, EachOf}
 use Rattle.lx_fhdl.specs.declared.exprs.SigId.{SigId}
 use Rattle.lx_fhdl.specs.declared.design.Signal.{Signal}
 use Rattle.lx_fhdl.specs.declared.design.Domain.{Domain}
@@ -29,8 +34,12 @@ use Rattle.lx_fhdl.specs.declared.design.Design.{Design}
 use Rattle.lx_emission.specs.Naming.{net, clock}
 use Rattle.lx_emission.specs.Nodes.{operand}
 use Rattle.lx_emission.specs.Signals.{Drive, Input, Undriven, CombAssign, CombBlock, Sync, own, single, comb_drive, drive_by, drive, domain_reset, reset_block, reset_text, comb_body, sync_body}
-use Rattle.lx_emission.specs.Texts.{covers, target_text, block_onto, else_text, stmt_text_of, stmt_text_within, stmt_text}
-use Rattle.lx_emission.proofs.Setting.{LetsRead, OperandsFit, SetsAlone, BlocksSetAlone}
+use Rattle.lx_emission.specs.Texts.{covers, target_text, block_onto, else_text, stmt_text}
+use Rattle.lx_emission.proofs.Roles.{read_other, idle_not_sync}
+use Rattle.lx_emission.proofs.Tests.{IsTest, names_test, widths_test, fits_test, list_passes, else_passes, when_passes}
+use Rattle.lx_emission.proofs.Setting.{LetsRead, IsFit, OperandsFit, SetsAlone, BlocksSetAlone}
+use Rattle.lx_arena.specs.Folds.{fold_at}
+use Rattle.lx_emission.proofs.Levels.{target_within, target_of, stmt_of, stmt_within, stmt_text_of, stmt_text_within}
 
 -- ---- one statement for x, and its text
 
@@ -52,7 +61,7 @@ part_bits d names x low len some inside true = record { chosen = AllBits; text =
 part_bits d names x low len some inside false = record { chosen = SomeBits low len some inside; text = refl }
 
 -- what the test of a plain target says of the node
-node_bits : (d : Design) (names : List Name) (x : ℕ) (g : ℕ → tree.Target) (o : Option Target) → ((y : Target) → o ≡ Some y → TargetStands d y) → is_plain_target x (target_of (term d) g o) ≡ true → BitsOf d names x (target_text d names o)
+node_bits : (d : Design) (names : List Name) (x : ℕ) (g : ℕ → tree.Target) (o : Option Target) → ((y : Target) → o ≡ Some y → TargetStands (shapes d) (length d.signals) d.exprs y) → is_plain_target x (target_of (term d) g o) ≡ true → BitsOf d names x (target_text d names o)
 node_bits d names x g None w h = absurd (cc)
 node_bits d names x g (Some (target.Whole y)) w h =
     subst (λ z. BitsOf d names x (Whole (net names z))) (sym (eqb-true y.0 x h)) (record { chosen = AllBits; text = refl })
@@ -65,8 +74,8 @@ node_bits d names x g (Some (target.Cat parts)) w h = absurd (cc)
 node_bits d names x g (Some (target.Pick items index)) w h = absurd (cc)
 
 target_bits : (d : Design) (names : List Name) (x : ℕ) → Keeps d → (k : ℕ) → is_plain_target x (design.target d k) ≡ true → BitsOf d names x (target_text d names (slice_get d.targets k))
-unfolding target_at target_within
-target_bits d names x keeps k h = node_bits d names x (target_within (term d) d.targets k) (slice_get d.targets k) (keeps.targets k) h
+unfolding fold_at target_at
+target_bits d names x keeps k h = node_bits d names x (target_within (term d) d.targets k) (slice_get d.targets k) (keeps.arenas.targets k) h
 
 -- what holds of an assignment, and of a condition where it holds of all statements inside, holds of each statement for x
 pub record HoldsOfTexts (d : Design) (names : List Name) (now : Bool) (x : ℕ) (P : tree.Stmt → VStmt → Type 0) : Type 0 where
@@ -81,7 +90,7 @@ some_stmts s [] (i ∷ is) h = omega arith
 some_stmts s (i ∷ is) rest h = omega arith
 
 node_holds : (d : Design) (names : List Name) (now : Bool) (x : ℕ) (P : tree.Stmt → VStmt → Type 0) → Keeps d → HoldsOfTexts d names now x P → (s : ℕ → tree.Stmt) (g : ℕ → VStmt) → ((j : ℕ) → is_for x (s j) ≡ true → P (s j) (g j))
-    → (o : Option Stmt) → ((y : Stmt) → o ≡ Some y → StmtStands d y) → is_for x (stmt_of (term d) (design.target d) s o) ≡ true → P (stmt_of (term d) (design.target d) s o) (stmt_text_of d names now g o)
+    → (o : Option Stmt) → ((y : Stmt) → o ≡ Some y → StmtStands (length d.exprs) (length d.targets) y) → is_for x (stmt_of (term d) (design.target d) s o) ≡ true → P (stmt_of (term d) (design.target d) s o) (stmt_text_of d names now g o)
 node_holds d names now x P keeps holds s g below None w h = absurd (cc)
 node_holds d names now x P keeps holds s g below (Some (statement.Assign t value line)) w h =
     let k = w (statement.Assign t value line) refl in
@@ -100,13 +109,12 @@ node_holds d names now x P keeps holds s g below (Some (statement.Case on arms r
 
 within_holds : (d : Design) (names : List Name) (now : Bool) (x : ℕ) (P : tree.Stmt → VStmt → Type 0) → Keeps d → HoldsOfTexts d names now x P → (n k : ℕ)
     → is_for x (stmt_within (term d) (design.target d) d.stmts n k) ≡ true → P (stmt_within (term d) (design.target d) d.stmts n k) (stmt_text_within d names now n k)
-unfolding stmt_within stmt_text_within
 within_holds d names now x P keeps holds zero k h = absurd (cc)
 within_holds d names now x P keeps holds (suc n) k h =
-    node_holds d names now x P keeps holds (stmt_within (term d) (design.target d) d.stmts n) (stmt_text_within d names now n) (λ j l. within_holds d names now x P keeps holds n j l) (slice_get d.stmts k) (keeps.stmts k) h
+    node_holds d names now x P keeps holds (stmt_within (term d) (design.target d) d.stmts n) (stmt_text_within d names now n) (λ j l. within_holds d names now x P keeps holds n j l) (slice_get d.stmts k) (keeps.arenas.stmts k) h
 
 pub text_holds : (d : Design) (names : List Name) (now : Bool) (x : ℕ) (P : tree.Stmt → VStmt → Type 0) → Keeps d → HoldsOfTexts d names now x P → (k : ℕ) → is_for x (stmt d k) ≡ true → P (stmt d k) (stmt_text d names now k)
-unfolding stmt_at stmt_text
+unfolding fold_at stmt_at stmt_text
 text_holds d names now x P keeps holds k h = within_holds d names now x P keeps holds (suc k) k h
 
 -- ---- what statements assign
@@ -194,49 +202,59 @@ all_true a b p q = rw (p, q) refl
 pub net_bits : (d : Design) (names : List Name) (m : VModule) → LetsRead d names m → (x : ℕ) → x < length d.signals → (sizes m (net names x)).bits ≡ (shapes d x).bits
 net_bits d names m lets x lt = ap (λ s. s.bits) (lets.declares.signals x lt)
 
-bits_fit : (d : Design) (names : List Name) (m : VModule) (x : ℕ) → LetsRead d names m → is_register m (net names x) ≡ true → x < length d.signals → (c : Bits d x) → target_fits m (bits_text d (net names x) x c) ≡ true
-bits_fit d names m x lets register lt AllBits = register
-bits_fit d names m x lets register lt (SomeBits low len some inside) =
+-- a target that is bits of x names a register, inside it
+bits_names : (d : Design) (names : List Name) (m : VModule) (x : ℕ) → LetsRead d names m → is_register m (net names x) ≡ true → x < length d.signals → (c : Bits d x) → target_names m (bits_text d (net names x) x c) ≡ true
+bits_names d names m x lets register lt AllBits = register
+bits_names d names m x lets register lt (SomeBits low len some inside) =
     let e = net_bits d names m lets x lt in
-    all_true (is_register m (net names x)) (is_within m (net names x) (low + len - 1) low) register
-    (all_true (nat_le low (low + len - 1)) (nat_lt (low + len - 1) (sizes m (net names x)).bits) (le-leb low (low + len - 1) (omega arith)) (lt-ltb (low + len - 1) (sizes m (net names x)).bits (omega arith)))
+    and_from (is_register m (net names x)) (is_within m (net names x) (low + len - 1) low) register
+    (and_from (nat_le low (low + len - 1)) (nat_lt (low + len - 1) (sizes m (net names x)).bits) (le-leb low (low + len - 1) (omega arith)) (lt-ltb (low + len - 1) (sizes m (net names x)).bits (omega arith)))
 
-at_once_fits : (now : Bool) → (if now then now else not now) ≡ true
-at_once_fits true = refl
-at_once_fits false = refl
+-- and has at most 128 bits
+bits_widths : (d : Design) (names : List Name) (m : VModule) (x : ℕ) → Keeps d → LetsRead d names m → x < length d.signals → (c : Bits d x) (e : VExpr) → IsFit m e
+    → (target_widths (sizes m) (bits_text d (net names x) x c) && right_fits (sizes m) (width.target_bits (sizes m) (bits_text d (net names x) x c)) e) ≡ true
+bits_widths d names m x keeps lets lt AllBits e fit =
+    let same = net_bits d names m lets x lt in
+    right_from_owns (sizes m) (sizes m (net names x)).bits e (omega (arith, fhdl.signal_most d keeps x)) fit.widths
+bits_widths d names m x keeps lets lt (SomeBits low len some inside) e fit =
+    right_from_owns (sizes m) (low + len - 1 - low + 1) e (omega (arith, fhdl.signal_most d keeps x)) fit.widths
 
-fits_list : (m : VModule) (n : Name) (now : Bool) (x : ℕ) (s : ℕ → tree.Stmt) (g : ℕ → VStmt) → ((j : ℕ) → is_for x (s j) ≡ true → stmt_fits m n now (g j) ≡ true) → (ids : List StmtId) → are_for x (block_at s ids) ≡ true
-    → (end : VBlock) → block_fits m n now end ≡ true → block_fits m n now (block_onto g ids end) ≡ true
-fits_list m n now x s g h [] plain end e = e
-fits_list m n now x s g h (i ∷ is) plain end e =
-    let p = and_parts (is_for x (s i.place)) (are_for x (block_at s is)) plain in
-    all_true (stmt_fits m n now (g i.place)) (block_fits m n now (block_onto g is end)) (h i.place p.0) (fits_list m n now x s g h is p.1 end e)
+now_fits : (now : Bool) → (if now then now else not now) ≡ true
+now_fits true = refl
+now_fits false = refl
 
-else_list_fits : (m : VModule) (n : Name) (now : Bool) (x : ℕ) (s : ℕ → tree.Stmt) (g : ℕ → VStmt) → ((j : ℕ) → is_for x (s j) ≡ true → stmt_fits m n now (g j) ≡ true) → (ids : List StmtId) → are_for x (block_at s ids) ≡ true
-    → else_fits m n now (else_text g ids) ≡ true
-else_list_fits m n now x s g h [] plain = refl
-else_list_fits m n now x s g h (i ∷ is) plain = fits_list m n now x s g h (i ∷ is) plain EndBlock refl
+-- the texts of statements for x pass a test that their assignments pass
+texts_pass : {C : VExpr → Bool} {S : VStmt → Bool} {B : VBlock → Bool} {E : VElse → Bool} → IsTest C S B E → (d : Design) (names : List Name) (now : Bool) (x : ℕ) → Keeps d
+    → ((k : ℕ) → k < length d.exprs → C (operand d names k) ≡ true)
+    → ((c : Bits d x) (k : ℕ) → k < length d.exprs → S (Assign (bits_text d (net names x) x c) now (operand d names k)) ≡ true)
+    → (ids : List StmtId) → are_for x (block d ids) ≡ true → (end : VBlock) → B end ≡ true → B (block_onto (stmt_text d names now) ids end) ≡ true
+texts_pass {C} {S} {B} {E} t d names now x keeps conditions assigns ids plain end e =
+    list_passes t x (stmt d) (stmt_text d names now) (text_holds d names now x (λ s v. S v ≡ true) keeps (record {
+      assigns = λ a c k h l. assigns c k l;
+      chooses = λ s g k body rest l h p q some.
+          when_passes t (operand d names k) (block_onto g body EndBlock) (else_text g rest) (conditions k l)
+          (list_passes t x s g h body p EndBlock t.done) (else_passes t x s g h rest q);
+    })) ids plain end e
 
-stmt_text_fits : (d : Design) (names : List Name) (m : VModule) (now : Bool) (x : ℕ) → Keeps d → LetsRead d names m → OperandsFit d names m → is_register m (net names x) ≡ true → x < length d.signals
-    → (k : ℕ) → is_for x (stmt d k) ≡ true → stmt_fits m (net names x) now (stmt_text d names now k) ≡ true
-stmt_text_fits d names m now x keeps lets operands register lt = text_holds d names now x (λ s v. stmt_fits m (net names x) now v ≡ true) keeps (record {
-  assigns = λ t c k h l.
-      let t = bits_text d (net names x) x c in
-      let e = operand d names k in
-      all_true (bytes_eq (target_name t) (net names x)) ((if now then now else not now) && (target_fits m t && expr_fits m e))
-      (ap (λ z. bytes_eq z (net names x)) (bits_name d (net names x) x c) ∙ same_bytes (net names x))
-      (all_true (if now then now else not now) (target_fits m t && expr_fits m e) (at_once_fits now) (all_true (target_fits m t) (expr_fits m e) (bits_fit d names m x lets register lt c) (operands.each k l)));
-  chooses = λ s g k body rest l h p q some.
-      all_true (expr_fits m (operand d names k)) (block_fits m (net names x) now (block_onto g body EndBlock) && else_fits m (net names x) now (else_text g rest)) (operands.each k l)
-      (all_true (block_fits m (net names x) now (block_onto g body EndBlock)) (else_fits m (net names x) now (else_text g rest))
-      (fits_list m (net names x) now x s g h body p EndBlock refl)
-      (else_list_fits m (net names x) now x s g h rest q));
-})
+-- a block that may stand in the module: its names, its widths, and that it assigns this name alone
+pub record BlockFits (m : VModule) (n : Name) (now : Bool) (b : VBlock) : Type 0 where
+  pub names : block_names m b ≡ true
+  pub widths : block_widths (sizes m) b ≡ true
+  pub fits : block_fits n now b ≡ true
 
 pub text_fits : (d : Design) (names : List Name) (m : VModule) (now : Bool) (x : ℕ) → Keeps d → LetsRead d names m → OperandsFit d names m → is_register m (net names x) ≡ true → x < length d.signals
-    → (ids : List StmtId) → all_stmts_below (length d.stmts) ids ≡ true → are_for x (block d ids) ≡ true → (end : VBlock) → block_fits m (net names x) now end ≡ true → block_fits m (net names x) now (block_onto (stmt_text d names now) ids end) ≡ true
-text_fits d names m now x keeps lets operands register lt ids below plain end e =
-    fits_list m (net names x) now x (stmt d) (stmt_text d names now) (stmt_text_fits d names m now x keeps lets operands register lt) ids plain end e
+    → (ids : List StmtId) → are_for x (block d ids) ≡ true → (end : VBlock) → BlockFits m (net names x) now end → BlockFits m (net names x) now (block_onto (stmt_text d names now) ids end)
+text_fits d names m now x keeps lets operands register lt ids plain end e = record {
+  names = texts_pass (names_test m) d names now x keeps (λ k l. (operands.each k l).names)
+      (λ c k l. and_from (target_names m (bits_text d (net names x) x c)) (names_fit m (operand d names k)) (bits_names d names m x lets register lt c) (operands.each k l).names)
+      ids plain end e.names;
+  widths = texts_pass (widths_test (sizes m)) d names now x keeps (λ k l. alone_from_owns (sizes m) (operand d names k) (operands.each k l).widths)
+      (λ c k l. bits_widths d names m x keeps lets lt c (operand d names k) (operands.each k l))
+      ids plain end e.widths;
+  fits = texts_pass (fits_test (net names x) now) d names now x keeps (λ k l. refl)
+      (λ c k l. and_from (bytes_eq (target_name (bits_text d (net names x) x c)) (net names x)) (if now then now else not now) (ap (λ z. bytes_eq z (net names x)) (bits_name d (net names x) x c) ∙ same_bytes (net names x)) (now_fits now))
+      ids plain end e.fits;
+}
 
 -- ---- the statements of a list that assign x
 
@@ -353,6 +371,7 @@ by_combined d x ids circuit.Input e = absurd (cc)
 by_combined d x ids circuit.Undriven e = absurd (cc)
 by_combined d x ids circuit.Comb e = combined_is (own d x d.comb) ids (single d (own d x d.comb)) e
 by_combined d x ids (circuit.Sync k) e = absurd (cc)
+by_combined d x ids (circuit.Read j) e = absurd (cc)
 
 -- the block of `always @(*)` has the statements of the list of the design
 pub combined_list : (d : Design) (x : ℕ) (ids : List StmtId) → drive d x ≡ CombBlock ids → ids ≡ own d x d.comb
@@ -371,14 +390,15 @@ sync_drives d x j k (y ∷ ys) other idle e =
     (λ h f. sync_drives d x (j + 1) k ys other idle f)
     e
 
-idle_alone : (b : Bool) (k : ℕ) → (if b then circuit.Input else circuit.Undriven) ≡ circuit.Sync k → ⊥
-idle_alone true k e = cc
-idle_alone false k e = cc
+-- a signal that no statement assigns is not registered
+not_sync : (d : Design) (x k : ℕ) → read_role x 0 (circuit_of d).ports (idle_role (circuit_of d) x) ≡ circuit.Sync k → ⊥
+not_sync d x k e = idle_not_sync (circuit_of d) x k (read_other x 0 (circuit_of d).ports (idle_role (circuit_of d) x) (circuit.Sync k) refl e)
 
-role_drives : (d : Design) (x k : ℕ) (b : Bool) → (if b then circuit.Comb else sync_role x 0 (circuit_of d).domains (idle_role (circuit_of d) x)) ≡ circuit.Sync k → tree.drives_block x (block d (stmts_of k d.sync)) ≡ true
+role_drives : (d : Design) (x k : ℕ) (b : Bool) → (if b then circuit.Comb else sync_role x 0 (circuit_of d).domains (read_role x 0 (circuit_of d).ports (idle_role (circuit_of d) x))) ≡ circuit.Sync k
+    → tree.drives_block x (block d (stmts_of k d.sync)) ≡ true
 unfolding circuit_of
 role_drives d x k true e = absurd (cc)
-role_drives d x k false e = sync_drives d x 0 k d.domains (idle_role (circuit_of d) x) (idle_alone (is_among x (circuit_of d).ios || is_some_reset x (circuit_of d).domains) k) e
+role_drives d x k false e = sync_drives d x 0 k d.domains (read_role x 0 (circuit_of d).ports (idle_role (circuit_of d) x)) (not_sync d x k) e
 
 record IsClocked (d : Design) (x k : ℕ) (ids : List StmtId) (r : Role) : Type 0 where
   same : ids ≡ own d x (stmts_of k d.sync)
@@ -392,6 +412,7 @@ by_clocked d x k ids circuit.Comb e = absurd (not_clocked (own d x d.comb) (sing
     not_clocked : (js : List StmtId) (o : Option ExprId) → comb_drive js o ≡ Sync k ids → ⊥
     not_clocked js None e = cc
     not_clocked js (Some value) e = cc
+by_clocked d x k ids (circuit.Read j) e = absurd (cc)
 by_clocked d x k ids (circuit.Sync j) e =
     let domain : j ≡ k = cc in
     let list : own d x (stmts_of j d.sync) ≡ ids = cc in
@@ -424,9 +445,9 @@ path_within : (d : Design) (y : Domain) (r : ℕ) (o : Option Signal) → slice_
 path_within d y r None e h = absurd h
 path_within d y r (Some s) e h = slice_get_within d.signals r s e
 
-reset_path : (d : Design) (y : Domain) (r : SigId) (o : Option SigId) → o ≡ Some r → IfSome o (λ z. HasResetPath y (slice_get d.signals z.0)) → r.0 < length d.signals
+reset_path : (d : Design) (y : Domain) (r : SigId) (o : Option SigId) → o ≡ Some r → IfSome o (IsReset d y) → r.0 < length d.signals
 reset_path d y r None e h = absurd (cc)
-reset_path d y r (Some z) e h = let same : z ≡ r = cc in subst (λ (i : SigId). i.0 < length d.signals) same (path_within d y z.0 (slice_get d.signals z.0) refl h)
+reset_path d y r (Some z) e h = let same : z ≡ r = cc in subst (λ (i : SigId). i.0 < length d.signals) same (path_within d y z.0 (slice_get d.signals z.0) refl h.path)
 
 -- the reset of a domain is a signal of the design
 pub reset_within : (d : Design) → Keeps d → (k : ℕ) (r : SigId) → domain_reset (slice_get d.domains k) ≡ Some r → r.0 < length d.signals
@@ -436,25 +457,10 @@ reset_within d keeps k r e = of_domain (slice_get d.domains k) refl e
     of_domain None e h = absurd (cc)
     of_domain (Some y) e h = reset_path d y r y.reset h (each_of (IsDomain d) d.domains k y keeps.domains e).reset
 
-record HasBits (n : ℕ) : Type 0 where
-  some : 1 ≤ n
-  most : n ≤ 64
-
-list_bits : (xs : List Signal) (k : ℕ) → EachOf IsSignal xs → k < length xs → HasBits (slice_index_or (map made_of xs) k nothing).shape.bits
-list_bits [] k h lt = absurd (omega arith)
-list_bits (y ∷ ys) zero h lt = record { some = h.0.some; most = h.0.most }
-list_bits (y ∷ ys) (suc k) h lt = list_bits ys k h.1 (omega arith)
-
-signal_bits : (d : Design) → Keeps d → (x : ℕ) → x < length d.signals → HasBits (shapes d x).bits
-unfolding circuit_of
-signal_bits d keeps x lt = list_bits d.signals x keeps.signals lt
-
-signal_fits : (d : Design) (names : List Name) (m : VModule) → Keeps d → LetsRead d names m → (x : ℕ) → x < length d.signals → expr_fits m (Net (net names x)) ≡ true
+pub signal_fits : (d : Design) (names : List Name) (m : VModule) → Keeps d → LetsRead d names m → (x : ℕ) → x < length d.signals → IsFit m (Net (net names x))
 signal_fits d names m keeps lets x lt =
     let e = net_bits d names m lets x lt in
-    let b = signal_bits d keeps x lt in
-    let n = (sizes m (net names x)).bits in
-    all_true (is_readable m (net names x)) (is_width n) (lets.signals x lt) (all_true (nat_le 1 n) (nat_le n 128) (le-leb 1 n (omega (arith, b.some))) (le-leb n 128 (omega (arith, b.most))))
+    record { names = lets.signals x lt; widths = is_width-of (sizes m (net names x)).bits (omega (arith, fhdl.signal_some d keeps x)) (omega (arith, fhdl.signal_most d keeps x)) }
 
 -- ---- the blocks of a module
 
@@ -489,31 +495,53 @@ sets_alone d names x keeps low (Sync k ids) e = clocked_sets d names x k ids kee
 pub blocks_set_alone : (d : Design) (names : List Name) → Keeps d → IsLowered d → BlocksSetAlone d names
 blocks_set_alone d names keeps low = record { each = λ x lt. sets_alone d names x keeps low (drive d x) refl }
 
-reset_fits : (d : Design) (names : List Name) (m : VModule) (x : ℕ) → is_register m (net names x) ≡ true → expr_fits m (reset_text d x) ≡ true
-    → (o : Option SigId) → ((r : SigId) → o ≡ Some r → expr_fits m (Net (net names r.0)) ≡ true) → block_fits m (net names x) false (reset_block d names x o) ≡ true
-reset_fits d names m x register reset None reads = refl
-reset_fits d names m x register reset (Some r) reads =
-    by_choice (λ b. block_fits m (net names x) false b ≡ true) (made (circuit_of d) x).reset_less
+-- the reset, where there is one
+reset_fits : (d : Design) (names : List Name) (m : VModule) (x : ℕ) → Keeps d → LetsRead d names m → x < length d.signals → is_register m (net names x) ≡ true → IsFit m (reset_text d x)
+    → (o : Option SigId) → ((r : SigId) → o ≡ Some r → IsFit m (Net (net names r.0))) → BlockFits m (net names x) false (reset_block d names x o)
+reset_fits d names m x keeps lets lt register reset None reads = record { names = refl; widths = refl; fits = refl }
+reset_fits d names m x keeps lets lt register reset (Some r) reads =
+    by_choice (λ b. BlockFits m (net names x) false b) (made (circuit_of d) x).reset_less
     EndBlock (InBlock (When (Net (net names r.0)) (InBlock (Assign (Whole (net names x)) false (reset_text d x)) EndBlock) NoElse) EndBlock)
-    (λ h. refl) (λ h. rw (reads r refl, same_bytes (net names x), register, reset) refl)
+    (λ h. record { names = refl; widths = refl; fits = refl })
+    (λ h.
+    let on = reads r refl in
+    let right = bits_widths d names m x keeps lets lt AllBits (reset_text d x) reset in
+    record {
+      names = rw (on.names, register, reset.names) refl;
+      widths = rw (alone_from_owns (sizes m) (Net (net names r.0)) on.widths, right) refl;
+      fits = rw (same_bytes (net names x)) refl;
+    })
+
+-- an always block that may stand in the module
+pub record AlwaysFits (m : VModule) (a : VAlways) : Type 0 where
+  pub names : always_names m a ≡ true
+  pub widths : always_widths (sizes m) a ≡ true
+  pub fits : always_fits a ≡ true
 
 -- the block of `always @(*)` for x may stand in the module
-pub combined_fits : (d : Design) (names : List Name) (m : VModule) (x : ℕ) → Keeps d → IsLowered d → LetsRead d names m → OperandsFit d names m → is_register m (net names x) ≡ true → x < length d.signals → expr_fits m (reset_text d x) ≡ true
-    → (ids : List StmtId) → drive d x ≡ CombBlock ids → always_fits m (record { clock = None; body = comb_body d names x ids }) ≡ true
+pub combined_fits : (d : Design) (names : List Name) (m : VModule) (x : ℕ) → Keeps d → IsLowered d → LetsRead d names m → OperandsFit d names m → is_register m (net names x) ≡ true → x < length d.signals → IsFit m (reset_text d x)
+    → (ids : List StmtId) → drive d x ≡ CombBlock ids → AlwaysFits m (record { clock = None; body = comb_body d names x ids })
 combined_fits d names m x keeps low lets operands register lt reset ids e =
     let own = combined_own d x ids keeps low e in
-    let rest = text_fits d names m true x keeps lets operands register lt ids own.below own.plain EndBlock refl in
-    rw (same_bytes (net names x), register, reset) rest
+    let rest = text_fits d names m true x keeps lets operands register lt ids own.plain EndBlock (record { names = refl; widths = refl; fits = refl }) in
+    let right = bits_widths d names m x keeps lets lt AllBits (reset_text d x) reset in
+    record {
+      names = rw (register, reset.names) rest.names;
+      widths = rw right rest.widths;
+      fits = rw (same_bytes (net names x)) rest.fits;
+    }
 
 -- so may the clocked block for x
-pub clocked_fits : (d : Design) (names : List Name) (m : VModule) (x : ℕ) → Keeps d → IsLowered d → LetsRead d names m → OperandsFit d names m → is_register m (net names x) ≡ true → x < length d.signals → expr_fits m (reset_text d x) ≡ true
-    → (k : ℕ) (ids : List StmtId) → drive d x ≡ Sync k ids → is_net m (clock d k) ≡ true → is_input (clock d k) m.ports ≡ true → always_fits m (record { clock = Some (clock d k); body = sync_body d names x k ids }) ≡ true
-clocked_fits d names m x keeps low lets operands register lt reset k ids e net_there input =
+pub clocked_fits : (d : Design) (names : List Name) (m : VModule) (x : ℕ) → Keeps d → IsLowered d → LetsRead d names m → OperandsFit d names m → is_register m (net names x) ≡ true → x < length d.signals → IsFit m (reset_text d x)
+    → (k : ℕ) (ids : List StmtId) → drive d x ≡ Sync k ids → is_input (clock d k) m.ports ≡ true → AlwaysFits m (record { clock = Some (clock d k); body = sync_body d names x k ids })
+clocked_fits d names m x keeps low lets operands register lt reset k ids e input =
     let own = clocked_own d x k ids keeps low e in
     let end = reset_block d names x (domain_reset (slice_get d.domains k)) in
-    let last = reset_fits d names m x register reset (domain_reset (slice_get d.domains k)) (λ r h. signal_fits d names m keeps lets r.0 (reset_within d keeps k r h)) in
+    let last = reset_fits d names m x keeps lets lt register reset (domain_reset (slice_get d.domains k)) (λ r h. signal_fits d names m keeps lets r.0 (reset_within d keeps k r h)) in
     let target = text_target d names false x keeps ids own.below own.plain (clocked_some d x k ids e) end in
-    let rest = text_fits d names m false x keeps lets operands register lt ids own.below own.plain end last in
-    all_true (is_net m (clock d k) && is_input (clock d k) m.ports) (target_body_fits m false (block_target (sync_body d names x k ids)) (sync_body d names x k ids))
-    (all_true (is_net m (clock d k)) (is_input (clock d k) m.ports) net_there input)
-    (subst (λ o. target_body_fits m false o (sync_body d names x k ids) ≡ true) (sym target) rest)
+    let rest = text_fits d names m false x keeps lets operands register lt ids own.plain end last in
+    record {
+      names = and_from (is_input (clock d k) m.ports) (block_names m (sync_body d names x k ids)) input rest.names;
+      widths = rest.widths;
+      fits = ap (λ (o : Option Name). target_fits false o (sync_body d names x k ids)) target ∙ rest.fits;
+    }

@@ -14,7 +14,7 @@ use Rattle.lx_fhdl.specs.declared.design.Design.{Design}
 use Rattle.lx_emission.specs.Naming.{net, node_net, clock, NamesFit}
 use Rattle.lx_emission.specs.Nodes.{operand, node_text}
 use Rattle.lx_emission.specs.Signals.{Drive, Input, Undriven, CombAssign, CombBlock, Sync, own, single, comb_drive, drive_by, drive, reset_text, signal_net, assign_by, signal_assign, comb_body, sync_body, always_by, signal_always}
-use Rattle.lx_emission.specs.Emission.{places_from, signal_port, is_input, is_port, is_net_node, node_assign, emitted}
+use Rattle.lx_emission.specs.Emission.{places_from, signal_port, is_input_drive, is_port, is_net_node, node_assign, emitted}
 use Rattle.lx_emission.specs.Emits.{PortsFit}
 use Rattle.lx_emission.proofs.Lists.{name_same, name_other, second_of_two, none_at_places, one_at_places, collects_outside, collects_assigns, collects_blocks}
 use Rattle.lx_emission.proofs.Names.{node_net_once, net_once}
@@ -151,7 +151,7 @@ outside_own : (d : Design) (names : List Name) (x : ℕ) → outside_drivers (ne
 unfolding signal_net
 outside_own d names x = rw (name_same (net names x) (net names x) refl) (by (drive d x))
   where
-    by : (r : Drive) → cond (is_input r && true) (runs.Outside ∷ []) [] ≡ outside_part r
+    by : (r : Drive) → cond (is_input_drive r && true) (runs.Outside ∷ []) [] ≡ outside_part r
     by Input = refl
     by Undriven = refl
     by (CombAssign value) = refl

@@ -14,7 +14,8 @@ use Rattle.lx_tables.specs.declared.operators.Op.TheVariants as op
 use Rattle.lx_tables.specs.Operators.{row_of, mix_of}
 use Rattle.lx_circuit.specs.Terms.{Term}
 use Rattle.lx_circuit.specs.Shapes.{Shapes, shape_of, shapes_of, fault_of, or_else, bits_sum, unary_shape, binary_shape, joined, too_wide, index_fault, binary_fault, replicate_fault, slice_fault}
-use Rattle.lx_circuit.specs.Values.{Values, value_of, values_of, unary_value, binary_value, mux_value, cat_pattern, replicate_value}
+use Rattle.lx_circuit.specs.Places.{Values}
+use Rattle.lx_circuit.specs.Values.{value_of, values_of, unary_value, binary_value, mux_value, cat_pattern, replicate_value}
 use Rattle.lx_circuit.specs.declared.WidthFault.TheVariants.{BadWidth}
 use Rattle.lx_vtext.specs.Tree as tree
 use Rattle.lx_vtext.specs.Tree.{Name, VExpr, VExprs, Net, Literal, PartSelect, Word, Conditional, Concatenation, Replication, ToSigned, ToUnsigned, NoMore, More}
@@ -36,7 +37,8 @@ use Rattle.lx_fhdl.specs.Trees.{terms_at, node_term}
 use Rattle.lx_fhdl.specs.declared.exprs.Expr.{Expr}
 use Rattle.lx_fhdl.specs.declared.exprs.Expr.TheVariants.{Const, Sig, Unary, Binary, Mux, Cat, Pick, Replicate, Slice}
 use Rattle.lx_fhdl.specs.declared.design.Design.{Design}
-use Rattle.lx_fhdl.proofs.Arena.{each_child, lower_at, by_test_none, slice_inside}
+use Rattle.lx_fhdl.proofs.Arena.{each_child, by_test_none, slice_inside}
+use Rattle.lx_arena.proofs.Places.{lower_at}
 use Rattle.lx_fhdl.proofs.Operators.{none_left, none_right, index_unsigned}
 use Rattle.lx_fhdl.proofs.Trees.{term_at-is}
 use Rattle.lx_emission.specs.Naming.{has_net, node_net}
@@ -249,15 +251,15 @@ node_text_stands d names s v w keeps lowered declares has fits small fit k node 
     let there = node.there in
     let h = shapes d in
     let within = slice_get_within d.exprs k x there in
-    let is = term_at-is d.exprs keeps.exprs_lower k x there in
+    let is = term_at-is d.exprs keeps.arenas.exprs_lower k x there in
     let P : ℕ → Type 0 = λ j. ExactTerm w h v (term d j) (meaning s (operand d names j)) in
     let below : (j : ℕ) → j < k → P j = λ j l. operand_exact d names s v w keeps lowered declares has fits small fit j (omega arith) in
     let Q : Option Expr → Type 0 = λ o. Drives w (shape_of h (term d k)).bits (value_of h v (term d k)) (meaning s (node_text_of (λ j. shape_of h (term d j)) (operand d names) o)) in
     let R : Term → Type 0 = λ t. Drives w (shape_of h t).bits (value_of h v t) (meaning s (node_text_of (λ j. shape_of h (term d j)) (operand d names) (Some x))) in
     subst Q (sym there) (subst R (sym is)
-    (node_drives w s h v (term d) (operand d names) x (operand-is_leaf d names) node.net (lowered.exprs k x there) (keeps.operands k x there) (keeps.parts k x there)
-    (ap (fault_of h) (sym is) ∙ keeps.shaped k within)
-    (each_child P k x below (lower_at d.exprs keeps.exprs_lower k x there))))
+    (node_drives w s h v (term d) (operand d names) x (operand-is_leaf d names) node.net (lowered.exprs k x there) (keeps.arenas.operands k x there) (keeps.arenas.parts k x there)
+    (ap (fault_of h) (sym is) ∙ keeps.arenas.shaped k within)
+    (each_child P k x below (lower_at expr_below d.exprs keeps.arenas.exprs_lower k x there))))
 
 -- The net of each operator and slice takes the pattern of the node's value.
 pub node_text_drives : (d : Design) (names : List Name) (s : Sizes) (v : Values) (w : Valuation)

@@ -6,10 +6,12 @@ use Rattle.std.proofs.lemmas.Nat.{pow_pos, mod_below}
 use Rattle.lx_num.specs.Ints.{modulo, wrapped, shape}
 use Rattle.lx_num.proofs.Ints.{modulo-below}
 use Rattle.lx_num.proofs.Ranges.{modulo-read_bits, modulo-wrap_bits}
-use Rattle.lx_circuit.specs.Values.{Values, value_of}
+use Rattle.lx_circuit.specs.Places.{Values}
+use Rattle.lx_circuit.specs.Values.{value_of}
 use Rattle.lx_circuit.specs.Statements.{Piece, after_pieces, taken_block, result}
 use Rattle.lx_circuit.specs.Circuit as circuit
-use Rattle.lx_circuit.specs.Circuit.{Role, role, by_role, IsSettled, InputsFit, StateFits}
+use Rattle.lx_circuit.specs.Circuit.{Role, role, by_role, IsSettled}
+use Rattle.lx_circuit.specs.Fitting.{InputsFit, StateFits}
 use Rattle.lx_circuit.proofs.Fitting.{settled_fits}
 use Rattle.lx_vtext.specs.Tree.{Name, EndBlock}
 use Rattle.lx_vmeaning.specs.Meaning.{Valuation, meaning, assigned}

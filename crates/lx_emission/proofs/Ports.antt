@@ -14,20 +14,20 @@ use Rattle.lx_fhdl.specs.declared.design.Domain.{Domain}
 use Rattle.lx_fhdl.specs.declared.design.Design.{Design}
 use Rattle.lx_emission.specs.Naming.{net, naming}
 use Rattle.lx_emission.specs.Signals.{own, single, comb_drive, drive_by, drive, signal_net}
-use Rattle.lx_emission.specs.Emission.{is_input, signal_port, reset_port, domain_port, domain_ports, ports_of, emitted}
+use Rattle.lx_emission.specs.Emission.{is_input_drive, signal_port, reset_port, domain_port, domain_ports, ports_of, emitted}
 
-given_by : (d : Design) (x : ℕ) (r : Role) → is_input (drive_by d x r) ≡ is_input_role r
+given_by : (d : Design) (x : ℕ) (r : Role) → is_input_drive (drive_by d x r) ≡ is_input_role r
 given_by d x circuit.Input = refl
 given_by d x circuit.Undriven = refl
 given_by d x circuit.Comb = by (single d (own d x d.comb))
   where
-    by : (o : Option ExprId) → is_input (comb_drive (own d x d.comb) o) ≡ false
+    by : (o : Option ExprId) → is_input_drive (comb_drive (own d x d.comb) o) ≡ false
     by None = refl
     by (Some value) = refl
 given_by d x (circuit.Sync k) = refl
 
 -- a net is given where its signal is an input
-pub given_is : (d : Design) (x : ℕ) → is_input (drive d x) ≡ is_input_role (role (circuit_of d) x)
+pub given_is : (d : Design) (x : ℕ) → is_input_drive (drive d x) ≡ is_input_role (role (circuit_of d) x)
 unfolding drive
 given_is d x = given_by d x (role (circuit_of d) x)
 

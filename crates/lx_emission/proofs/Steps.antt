@@ -5,10 +5,12 @@ use Rattle.std.proofs.lemmas.Nat.{pow_pos}
 use Rattle.lx_num.specs.Ints.{modulo, wrapped, shape}
 use Rattle.lx_num.proofs.Ints.{modulo-below}
 use Rattle.lx_num.proofs.Ranges.{modulo-wrap_bits}
-use Rattle.lx_circuit.specs.Values.{Values, is_zero}
+use Rattle.lx_circuit.specs.Places.{Values}
+use Rattle.lx_circuit.specs.Values.{is_zero}
 use Rattle.lx_circuit.specs.Statements.{after_pieces, taken_block, result}
 use Rattle.lx_circuit.specs.Circuit as circuit
-use Rattle.lx_circuit.specs.Circuit.{Role, role, made, by_role, IsSettled, InputsFit, StateFits, next_state, first_state, risen, is_reset, domain_at, no_domain}
+use Rattle.lx_circuit.specs.Circuit.{Role, role, made, by_role, IsSettled, next_state, first_state, risen, is_reset, domain_at, no_domain}
+use Rattle.lx_circuit.specs.Fitting.{InputsFit, StateFits}
 use Rattle.lx_circuit.proofs.Fitting.{settled_fits}
 use Rattle.lx_vtext.specs.Tree.{Name, Net, Whole, Assign, When, NoElse, VBlock, EndBlock, InBlock}
 use Rattle.lx_vmeaning.specs.Meaning.{Sizes, Valuation, meaning, assigned, holds}
@@ -23,7 +25,7 @@ use Rattle.lx_fhdl.specs.declared.exprs.SigId.{SigId}
 use Rattle.lx_fhdl.specs.declared.design.Domain.{Domain}
 use Rattle.lx_fhdl.specs.declared.design.Design.{Design}
 use Rattle.lx_fhdl.proofs.Designs as design
-use Rattle.lx_fhdl.proofs.Arena.{node_there}
+use Rattle.lx_arena.proofs.Places.{node_there}
 use Rattle.lx_emission.specs.Naming.{net, node_net, clock, naming}
 use Rattle.lx_emission.specs.Signals.{Drive, Sync, drive, drive_by, own, reset_of_signal, reset_text, domain_reset, reset_block, sync_body, init_of, shape_of_signal, signal_net}
 use Rattle.lx_emission.specs.Emission.{emitted}

@@ -9,14 +9,17 @@ use Rattle.lx_vtext.specs.Tree.{Name, VExpr, VModule}
 use Rattle.lx_vtext.specs.Names.{is_name}
 use Rattle.lx_vtext.specs.Fits.{IsNet, IsPort, IsSet, IsDecl, IsAssign, IsAlways, IsValue, IsModule}
 use Rattle.lx_vmeaning.specs.Runs.{Driver, drivers}
-use Rattle.lx_vmeaning.specs.Cycle.{HasCycleMeaning, net_fits, is_declared_width, assign_fits, always_fits, memory_fits, is_net, is_register, is_readable, expr_fits, is_clock, belongs}
+use Rattle.lx_vmeaning.specs.Cycle.{HasCycleMeaning}
+use Rattle.lx_vmeaning.specs.Widths.{is_declared_width}
+use Rattle.lx_vmeaning.specs.Blocks.{always_fits, memory_fits}
+use Rattle.lx_vmeaning.specs.Naming.{is_net, is_register, is_readable, is_clock}
 use Rattle.lx_fhdl.specs.Keeping.{Keeps, IsDomain}
 use Rattle.lx_fhdl.specs.declared.design.Design.{Design}
 use Rattle.lx_fhdl.proofs.Designs as design
 use Rattle.lx_emission.specs.Naming.{net, nets_before, node_net, clock, NamesFit}
 use Rattle.lx_emission.specs.Nodes.{node_shape, operand, node_text}
 use Rattle.lx_emission.specs.Signals.{Drive, Input, Undriven, CombAssign, CombBlock, Sync, drive, init_of, shape_of_signal, reset_of_signal, reset_text, signal_net}
-use Rattle.lx_emission.specs.Emission.{signal_port, is_input, emitted}
+use Rattle.lx_emission.specs.Emission.{signal_port, is_input_drive, emitted}
 use Rattle.lx_emission.specs.Emits.{CanBeEmitted}
 use Rattle.lx_emission.proofs.Setting.{IsNetNode, TermsAreSmall, driver_by}
 use Rattle.lx_emission.proofs.Names.{domain_at, each_of}
@@ -148,7 +151,7 @@ node_lawful : (d : Design) → TermsAreSmall d → (k : ℕ) → IsNetNode d k �
 node_lawful d small k is = record { name = node_name_lawful (nets_before d.exprs k); bits = (small.each k (net_node_within d k is)).some; init = tt }
 
 -- an input has no first value
-given_init : (s : Shape) (z : ℤ) (g : Drive) → is_input g ≡ true → init_of s z g ≡ None
+given_init : (s : Shape) (z : ℤ) (g : Drive) → is_input_drive g ≡ true → init_of s z g ≡ None
 given_init s z Input e = refl
 given_init s z Undriven e = refl
 given_init s z (CombAssign value) e = refl

@@ -4,7 +4,7 @@ use Rattle.std.specs.Prelude.{slice_get}
 use Rattle.std.proofs.lemmas.Bool.{and_parts, eqb-true}
 use Rattle.lx_circuit.specs.Statements as tree
 use Rattle.lx_fhdl.specs.Below.{StmtId}
-use Rattle.lx_fhdl.specs.Stmts.{target_within, target_of, target_at, stmt_of, stmt_within, stmt_at, block_at}
+use Rattle.lx_fhdl.specs.Stmts.{target_at, stmt_at, block_at}
 use Rattle.lx_fhdl.specs.Designs as design
 use Rattle.lx_fhdl.specs.Designs.{term, stmt, block}
 use Rattle.lx_fhdl.specs.Keeping.{Keeps, TargetStands}
@@ -14,8 +14,10 @@ use Rattle.lx_fhdl.specs.declared.stmts.Target.TheVariants as target
 use Rattle.lx_fhdl.specs.declared.stmts.Stmt.{Stmt}
 use Rattle.lx_fhdl.specs.declared.stmts.Stmt.TheVariants as statement
 use Rattle.lx_fhdl.specs.declared.design.Design.{Design}
+use Rattle.lx_arena.specs.Folds.{fold_at}
+use Rattle.lx_emission.proofs.Levels.{target_within, target_of, stmt_of, stmt_within}
 
-node_target_within : (d : Design) (x : ℕ) (g : ℕ → tree.Target) (o : Option Target) → ((y : Target) → o ≡ Some y → TargetStands d y) → is_plain_target x (target_of (term d) g o) ≡ true → x < length d.signals
+node_target_within : (d : Design) (x : ℕ) (g : ℕ → tree.Target) (o : Option Target) → ((y : Target) → o ≡ Some y → TargetStands (shapes d) (length d.signals) d.exprs y) → is_plain_target x (target_of (term d) g o) ≡ true → x < length d.signals
 node_target_within d x g None w h = absurd cc
 node_target_within d x g (Some (target.Whole y)) w h = subst (λ z. z < length d.signals) (eqb-true y.0 x h) (w (target.Whole y) refl)
 node_target_within d x g (Some (target.Part y low len)) w h = subst (λ z. z < length d.signals) (eqb-true y.0 x h) (w (target.Part y low len) refl).0
@@ -23,8 +25,8 @@ node_target_within d x g (Some (target.Cat parts)) w h = absurd cc
 node_target_within d x g (Some (target.Pick items index)) w h = absurd cc
 
 target_made : (d : Design) (x : ℕ) → Keeps d → (k : ℕ) → is_plain_target x (design.target d k) ≡ true → x < length d.signals
-unfolding target_at target_within
-target_made d x keeps k h = node_target_within d x (target_within (term d) d.targets k) (slice_get d.targets k) (keeps.targets k) h
+unfolding fold_at target_at
+target_made d x keeps k h = node_target_within d x (target_within (term d) d.targets k) (slice_get d.targets k) (keeps.arenas.targets k) h
 
 -- of two lists of which one has a statement
 either_made : (n x : ℕ) (s : ℕ → tree.Stmt) → ((j : ℕ) → is_for x (s j) ≡ true → x < n) → (body rest : List StmtId) → are_for x (block_at s body) ≡ true → are_for x (block_at s rest) ≡ true
@@ -46,12 +48,11 @@ node_made d x keeps s below (Some (statement.If (b ∷ c ∷ bs) rest line)) h =
 node_made d x keeps s below (Some (statement.Case on arms rest line)) h = absurd cc
 
 within_made : (d : Design) (x : ℕ) → Keeps d → (n k : ℕ) → is_for x (stmt_within (term d) (design.target d) d.stmts n k) ≡ true → x < length d.signals
-unfolding stmt_within
 within_made d x keeps zero k h = absurd cc
 within_made d x keeps (suc n) k h = node_made d x keeps (stmt_within (term d) (design.target d) d.stmts n) (λ j l. within_made d x keeps n j l) (slice_get d.stmts k) h
 
 stmt_made : (d : Design) (x : ℕ) → Keeps d → (k : ℕ) → is_for x (stmt d k) ≡ true → x < length d.signals
-unfolding stmt_at
+unfolding fold_at stmt_at
 stmt_made d x keeps k h = within_made d x keeps (suc k) k h
 
 pub list_made : (d : Design) (x : ℕ) → Keeps d → (ids : List StmtId) → are_for x (block d ids) ≡ true → 0 < length ids → x < length d.signals

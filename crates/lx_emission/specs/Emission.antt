@@ -22,12 +22,12 @@ places_from k (x ∷ xs) = k ∷ places_from (k + 1) xs
 abbrev pub wire : Bool → ℕ → Name → VNet
 wire signed bits name = record { signed = signed; bits = bits; name = name; init = None }
 
-abbrev pub is_input : Drive → Bool
-is_input Input = true
-is_input _ = false
+abbrev pub is_input_drive : Drive → Bool
+is_input_drive Input = true
+is_input_drive _ = false
 
 abbrev pub signal_port : Design → List Name → ℕ → VPort
-signal_port d names x = record { is_input = is_input (drive d x); net = signal_net d names x }
+signal_port d names x = record { is_input = is_input_drive (drive d x); net = signal_net d names x }
 
 abbrev pub reset_port : Design → List Name → Option SigId → List VPort
 reset_port d names None = []

@@ -36,6 +36,8 @@ toggle = record {
   signals = toggle_signals;
   comb = [];
   sync = record { domain = 0; stmts = the_stmt 1 ∷ [] } ∷ [];
+  memories = [];
+  ports = [];
   domains = record { name = codes "sys"; reset = Some (the_signal 2) } ∷ [];
   ios = the_signal 0 ∷ the_signal 1 ∷ [];
 }
@@ -86,6 +88,8 @@ swap = record {
   signals = swap_signals;
   comb = [];
   sync = record { domain = 0; stmts = the_stmt 0 ∷ [] } ∷ record { domain = 1; stmts = the_stmt 1 ∷ [] } ∷ [];
+  memories = [];
+  ports = [];
   domains = record { name = codes "sys"; reset = None } ∷ record { name = codes "pix"; reset = Some (the_signal 2) } ∷ [];
   ios = the_signal 0 ∷ the_signal 1 ∷ [];
 }
@@ -138,6 +142,8 @@ slices = record {
   signals = slices_signals;
   comb = the_stmt 0 ∷ the_stmt 2 ∷ [];
   sync = [];
+  memories = [];
+  ports = [];
   domains = [];
   ios = the_signal 0 ∷ the_signal 1 ∷ [];
 }
@@ -187,6 +193,8 @@ mixed = record {
   signals = mixed_signals;
   comb = the_stmt 0 ∷ the_stmt 1 ∷ [];
   sync = [];
+  memories = [];
+  ports = [];
   domains = [];
   ios = the_signal 0 ∷ the_signal 1 ∷ the_signal 2 ∷ the_signal 3 ∷ [];
 }
@@ -245,6 +253,8 @@ branched = record {
   signals = branched_signals;
   comb = the_stmt 0 ∷ the_stmt 1 ∷ the_stmt 2 ∷ [];
   sync = record { domain = 0; stmts = the_stmt 5 ∷ [] } ∷ [];
+  memories = [];
+  ports = [];
   domains = record { name = codes "sys"; reset = Some (the_signal 4) } ∷ [];
   ios = the_signal 0 ∷ the_signal 1 ∷ the_signal 2 ∷ the_signal 3 ∷ [];
 }
