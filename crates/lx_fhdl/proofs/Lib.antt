@@ -1,5 +1,6 @@
 pub mod Arena
 pub mod Designs
+pub mod Drafts
 pub mod Fitting
 pub mod Frames
 pub mod Instance
@@ -8,6 +9,7 @@ pub mod Machine
 pub mod Meanings
 pub mod Operators
 pub mod Parts
+pub mod Staying
 pub mod StmtTrees
 pub mod Trees
 pub mod TreesFit

@@ -1,5 +1,6 @@
 pub mod Below
 pub mod Designs
+pub mod Drafts
 pub mod Instance
 pub mod Keeping
 pub mod Kept
