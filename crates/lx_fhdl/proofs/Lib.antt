@@ -9,6 +9,7 @@ pub mod Machine
 pub mod Meanings
 pub mod Operators
 pub mod Parts
+pub mod Rows
 pub mod Staying
 pub mod StmtTrees
 pub mod Trees

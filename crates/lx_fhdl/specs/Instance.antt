@@ -1,5 +1,5 @@
 -- A design that keeps what designs keep: statements of every kind, a memory that a Fetch reads, and ports of every mode.
-use Rattle.std.specs.Prelude.{ℕ, pos, false, List, [], ◌∷◌, Option, Some, None, codes}
+use Rattle.std.specs.Prelude.{ℕ, pos, true, false, List, [], ◌∷◌, Option, Some, None, codes}
 use Rattle.lx_num.specs.Ints.{unsigned}
 use Rattle.lx_tables.specs.declared.operators.Op.TheVariants as op
 use Rattle.lx_fhdl.specs.Below.{ExprId, TargetId, StmtId}
@@ -56,7 +56,7 @@ instance_targets =
     target.Pick (the_target 1 ∷ the_target 4 ∷ []) (the_expr 1) ∷
     []
 
--- q := ~q; that under the condition c; two assignments of other signals, one of them chosen by q and from the memory
+-- q := ~q; that under the condition c; two assignments of other signals, one of them chosen by q and from the memory; q := c
 unfoldable pub instance_stmts : List Stmt
 instance_stmts =
     stmt.Assign (the_target 0) (the_expr 2) 7 ∷
@@ -64,6 +64,7 @@ instance_stmts =
     stmt.Assign (the_target 3) (the_expr 4) 8 ∷
     stmt.Assign (the_target 5) (the_expr 7) 10 ∷
     stmt.Case (the_expr 1) (record { key = pos 1; body = the_stmt 3 ∷ [] } ∷ []) (the_stmt 2 ∷ []) 9 ∷
+    stmt.Assign (the_target 0) (the_expr 0) 13 ∷
     []
 
 unfoldable pub instance_signals : List Signal
@@ -80,6 +81,7 @@ instance_signals =
     signal_of (codes "held") 8 0 ∷
     signal_of (codes "dat_w") 8 0 ∷
     signal_of (codes "we") 2 0 ∷
+    record { path = codes "storage" ∷ []; shape = unsigned 4; reset = pos 5; reset_less = false; by_bus = true; line = 12 } ∷
     []
 
 -- three words of eight bits
@@ -109,7 +111,7 @@ instance = record {
   memories = instance_memories;
   ports = instance_ports;
   comb = the_stmt 2 ∷ the_stmt 4 ∷ [];
-  sync = record { domain = 0; stmts = the_stmt 1 ∷ [] } ∷ [];
+  sync = record { domain = 0; stmts = the_stmt 1 ∷ [] } ∷ record { domain = 0; stmts = the_stmt 5 ∷ [] } ∷ [];
   domains = record { name = codes "sys"; reset = Some (the_signal 2) } ∷ [];
-  ios = the_signal 0 ∷ the_signal 1 ∷ the_signal 3 ∷ the_signal 4 ∷ the_signal 5 ∷ the_signal 10 ∷ the_signal 11 ∷ [];
+  ios = the_signal 0 ∷ the_signal 1 ∷ the_signal 3 ∷ the_signal 4 ∷ the_signal 5 ∷ the_signal 10 ∷ the_signal 11 ∷ the_signal 12 ∷ [];
 }

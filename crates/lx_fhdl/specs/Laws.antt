@@ -1,5 +1,5 @@
 -- The nodes of an arena mean what their trees mean.
-use Rattle.std.specs.Prelude.{◌≡◌, ℕ, ℤ, List, Some, None, ◌<◌, length, slice_get}
+use Rattle.std.specs.Prelude.{◌≡◌, ℕ, ℤ, true, List, Some, None, ◌<◌, length, slice_get}
 use Rattle.lx_num.specs.declared.Shape.{Shape}
 use Rattle.lx_num.specs.Ints.{Fits}
 use Rattle.lx_arena.specs.Lower.{EachLower}
@@ -13,6 +13,7 @@ use Rattle.lx_circuit.specs.Statements as tree
 use Rattle.lx_fhdl.specs.Below.{expr_below, target_below, stmt_below}
 use Rattle.lx_fhdl.specs.Designs as design
 use Rattle.lx_fhdl.specs.Keeping.{Keeps}
+use Rattle.lx_fhdl.specs.Kept.{is_kept}
 use Rattle.lx_fhdl.specs.Nodes.{IsSmall, IsShaped, IsValued, shape_at, value_at, listed}
 use Rattle.lx_fhdl.specs.Stmts.{node_target, target_at, node_stmt, stmt_at}
 use Rattle.lx_fhdl.specs.Trees.{node_term, term_at}
@@ -67,3 +68,7 @@ DesignsFit =
     (d : Design) → Keeps d → (steps : List Step) (inputs : Values)
     → StepsFit (design.circuit_of d) steps → InputsFit (design.circuit_of d) inputs
     → (v : Values) → IsView (design.circuit_of d) steps inputs v → AllFit d v
+
+-- The test of what a design keeps is never true of another design.
+abbrev pub TestHolds : Type 0
+TestHolds = (d : Design) → is_kept d ≡ true → Keeps d
