@@ -3,7 +3,8 @@ use Rattle.std.proofs.Common.{ℕ, List, [], ◌∷◌, ◌≤◌, ◌∙◌, re
 use Rattle.lx_circuit.specs.Places.{Values}
 use Rattle.lx_circuit.specs.Circuit.{Circuit, Step, next_state, first_state, ViewFrom}
 use Rattle.lx_circuit.specs.Fitting.{InputsFit, StepsFit, StateFits}
-use Rattle.lx_circuit.specs.Runs.{HaveSameRuns, Same, Extends, StepsWith}
+use Rattle.lx_circuit.specs.Runs.{HaveSameRuns, Same, Extends, StepsWith, Simulates}
+use Rattle.lx_circuit.proofs.Settle.{settles_once}
 use Rattle.lx_circuit.proofs.Fitting.{settled_fits, next_state_fits, first_state_fits}
 
 there_from : (n : ℕ) (c e : Circuit) (R : Values → Values → Type 0) → StepsWith n c e R → (steps : List Step) (s t i v : Values) → StateFits c s → StepsFit c steps → InputsFit c i → R s t → ViewFrom c s steps i v
@@ -27,6 +28,22 @@ extends_by n c e R h = record {
   inputs = h.inputs;
   there = λ steps i g k v p. there_from n c e R h steps (first_state c) (first_state e) i v (first_state_fits c h.keeps) g k h.first p;
   back = λ steps i g k w p. back_from n c e R h steps (first_state c) (first_state e) i w (first_state_fits c h.keeps) g k h.first p;
+}
+
+-- circuits that settle in one way settle beside one another
+pub steps_with : (n : ℕ) (c e : Circuit) (R : Values → Values → Type 0) → Simulates n c e R → StepsWith n c e R
+steps_with n c e R h = record {
+  keeps = h.keeps;
+  inputs = h.inputs;
+  first = h.first;
+  there = λ s t i v f k r p.
+      let other = settles_once e h.other_order t i in
+      let both = h.step s t i v other.values f k r p other.settled in
+      (other.values, other.settled, both.0, both.1);
+  back = λ s t i w f k r p.
+      let one = settles_once c h.order s i in
+      let both = h.step s t i one.values w f k r one.settled p in
+      (one.values, one.settled, both.0, both.1);
 }
 
 steps_fit : (c e : Circuit) → ((i : Values) → InputsFit c i → InputsFit e i) → (steps : List Step) → StepsFit c steps → StepsFit e steps

@@ -1,5 +1,6 @@
 pub mod Circuit
 pub mod Fitting
+pub mod Instances
 pub mod Locality
 pub mod Memories
 pub mod Operands

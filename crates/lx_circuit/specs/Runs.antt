@@ -2,6 +2,7 @@
 use Rattle.std.specs.Prelude.{◌≡◌, ℕ, Bool, List, Option, Some, ◌<◌, ◌≤◌}
 use Rattle.lx_circuit.specs.Places.{Place, Values, At, Word}
 use Rattle.lx_circuit.specs.Circuit.{Circuit, Step, IsSettled, next_state, first_state, IsView}
+use Rattle.lx_circuit.specs.Reads.{HasOrder}
 use Rattle.lx_circuit.specs.Fitting.{KeepsShapes, InputsFit, StepsFit, StateFits}
 
 -- every run: for all inputs that fit, what is a view of the one is a view of the other
@@ -32,6 +33,17 @@ pub record StepsWith (n : ℕ) (c e : Circuit) (R : Values → Values → Type 0
   pub back : (s t i w : Values) → StateFits c s → InputsFit c i → R s t → IsSettled e t i w
       → (v : Values) × IsSettled c s i v × Same n v w × ((rises : ℕ → Bool) → R (next_state c s v rises) (next_state e t w rises))
 
+-- The same for circuits that settle in one way: under states that stand in the relation, any two settled valuations are the
+-- same on the signals below n and on all words.
+pub record Simulates (n : ℕ) (c e : Circuit) (R : Values → Values → Type 0) : Type 0 where
+  pub keeps : KeepsShapes c
+  pub order : HasOrder c
+  pub other_order : HasOrder e
+  pub inputs : (i : Values) → InputsFit c i → InputsFit e i
+  pub first : R (first_state c) (first_state e)
+  pub step : (s t i v w : Values) → StateFits c s → InputsFit c i → R s t → IsSettled c s i v → IsSettled e t i w
+      → Same n v w × ((rises : ℕ → Bool) → R (next_state c s v rises) (next_state e t w rises))
+
 -- each place of the one state that stands for a place of the other has the value of that place
 abbrev pub Matches : (Place → Option Place) → Values → Values → Type 0
 Matches to s t = (p q : Place) → to p ≡ Some q → s p ≡ t q
@@ -39,6 +51,10 @@ Matches to s t = (p q : Place) → to p ≡ Some q → s p ≡ t q
 -- A simulation makes an extension.
 abbrev pub IsExtensionLaw : Type 0
 IsExtensionLaw = (n : ℕ) (c e : Circuit) (to : Place → Option Place) → StepsWith n c e (Matches to) → Extends n c e
+
+-- So does one of circuits that settle in one way.
+abbrev pub IsSimulationLaw : Type 0
+IsSimulationLaw = (n : ℕ) (c e : Circuit) (to : Place → Option Place) → Simulates n c e (Matches to) → Extends n c e
 
 -- An extension of an extension is one, on the signals of the first.
 abbrev pub IsChainLaw : Type 0

@@ -1,7 +1,8 @@
 //! The laws of settling, of views, of locality and of extensions, over all circuits; and values worked by hand.
 
+ghost use Rattle.lx_circuit.specs.Instances.{IsMemoryView, reading, registered};
 ghost use Rattle.lx_circuit.specs.Locality.{IsLocal};
-ghost use Rattle.lx_circuit.specs.Runs.{IsChainLaw, IsExtensionLaw};
+ghost use Rattle.lx_circuit.specs.Runs.{Extends, IsChainLaw, IsExtensionLaw, IsSimulationLaw};
 ghost use Rattle.lx_circuit.specs.Settling.{IsFittingLaw, IsSettlingLaw, IsViewLaw};
 ghost use Rattle.lx_circuit.specs.Worked.{AreWorked};
 ghost use Rattle.lx_circuit.specs.WorkedMemories.{AreRemembered};
@@ -37,6 +38,11 @@ pub fn extension_law()
     ensures { IsExtensionLaw }
 {}
 
+/// Where both circuits settle in one way, it is enough that any two settled valuations agree and lead on.
+pub fn simulation_law()
+    ensures { IsSimulationLaw }
+{}
+
 /// Extensions follow one another.
 pub fn chain_law()
     ensures { IsChainLaw }
@@ -60,4 +66,14 @@ pub fn reads_are_worked()
 /// A memory with two ports has the words, and shows what was worked by hand, in each mode.
 pub fn memories_are_worked()
     ensures { AreRemembered }
+{}
+
+/// A circuit with a memory is one that the laws speak of, and each of its views is the one worked by hand.
+pub fn instance_law()
+    ensures { IsMemoryView }
+{}
+
+/// A port that keeps data does what a register beside a read of the word does: an extension by one signal.
+pub fn extension_instance_law()
+    ensures { Extends 4 reading registered }
 {}

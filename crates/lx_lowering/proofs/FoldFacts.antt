@@ -1,20 +1,19 @@
 -- Statements of one signal that read nothing give what the constant in their place gives.
-use Rattle.std.proofs.Common.{◌≡◌, ℕ, ℤ, ◌+◌, ◌*◌, ◌%◌, ◌^◌, ◌<◌, ◌≤◌, Bool, true, false, ◌&&◌, ◌||◌, not, nat_eq, cond, refl, sym, ◌∙◌, ap, arith, eqb-true, eq-eqb}
+use Rattle.std.proofs.Common.{◌≡◌, ℕ, ℤ, ◌%◌, ◌^◌, ◌<◌, ◌≤◌, Bool, true, false, ◌&&◌, ◌||◌, not, nat_eq, refl, sym, ◌∙◌, ap, arith, eqb-true, eq-eqb}
 use Rattle.std.proofs.Math.Bool.{or-false, and-true, and-false}
-use Rattle.std.proofs.Math.Nat.{mod-eq_of_lt, div-eq_of_lt}
 use Rattle.std.proofs.lemmas.Bool.{and_parts, or_from, ne_eqb, le-leb}
 use Rattle.std.specs.Prelude.{None, nat_le}
 use Rattle.std.proofs.lemmas.Nat.{pow_pos, mod_below}
 use Rattle.lx_num.specs.declared.Shape.{Shape}
 use Rattle.lx_num.specs.Ints.{modulo, read_bits, wrapped, FitsBits}
-use Rattle.lx_num.proofs.Ints.{modulo-below}
-use Rattle.lx_num.proofs.Ranges.{FitsBits-read_bits, read_bits-modulo, wrap_bits_same}
+use Rattle.lx_num.proofs.Ranges.{FitsBits-read_bits, wrap_bits_same}
 use Rattle.lx_circuit.specs.Places.{Place, Values}
 use Rattle.lx_circuit.specs.Terms.{Term, Terms, Constant, Signal, Unary, Binary, Mux, Cat, Replicate, Slice, Pick, Fetch, NoTerm, MoreTerms}
 use Rattle.lx_circuit.specs.Shapes.{Shapes, constant_fault}
-use Rattle.lx_circuit.specs.Statements.{Target, Whole, Part, CatTarget, PickTarget, Stmt, Assign, If, Case, NoBranch, Branch, Block, Done, Then, taken_block, laid_over, after_pieces, result, is_target, drives, drives_block}
+use Rattle.lx_circuit.specs.Statements.{Target, Whole, Part, CatTarget, PickTarget, Stmt, Assign, If, Case, NoBranch, Branch, Block, Done, Then, taken_block, after_pieces, result, is_target, drives, drives_block}
 use Rattle.lx_circuit.specs.Reads.{names, some_names, target_names, reads, reads_block}
 use Rattle.lx_circuit.proofs.Frames.{block_same}
+use Rattle.lx_circuit.proofs.Whole.{whole_assigned}
 use Rattle.lx_fhdl.specs.Nodes.{IsSmall}
 use Rattle.lx_fhdl.specs.Keeping.{stmt_depth, block_depth}
 use Rattle.lx_fhdl.specs.Lowered.{is_plain_target, is_done, is_for, are_for}
@@ -94,24 +93,11 @@ by_fold s x start (Then t ts) P kept changed = by_answer (block_reads_none (Then
     by_answer true e = changed refl e
     by_answer false e = kept
 
--- bits that cover a pattern leave nothing of it
-laid_whole : (p n : ℕ) (z : ℤ) → p < 2 ^ n → laid_over p 0 n z ≡ modulo z (2 ^ n)
-laid_whole p n z h =
-    let e : 2 ^ (0 + n) ≡ 2 ^ n = ap (λ (k : ℕ). 2 ^ k) (omega arith) in
-    let l : p < 2 ^ (0 + n) = omega arith in
-    omega (arith, mod_below p (2 ^ 0) (pow_pos 0), ap (λ (k : ℕ). 2 ^ (0 + n) * k) (div-eq_of_lt l))
-
 -- a whole assignment of a value that fits gives this value
 whole_result : (s : Shapes) (v : Values) (x : ℕ) (start r : ℤ) → 1 ≤ (s x).bits → FitsBits (s x).bits (s x).signed r → result s x start (taken_block s v (one (Assign (Whole x) (Constant r (s x))))) ≡ r
 whole_result s v x start r some fits =
-    let n = (s x).bits in
-    let p = modulo start (2 ^ n) in
-    let below : p < 2 ^ n = modulo-below start (2 ^ n) (pow_pos n) in
-    let same : wrapped (s x) r ≡ r = wrap_bits_same n (s x).signed r some fits in
-    let after : cond (nat_eq x x) (laid_over p 0 n (wrapped (s x) r)) p ≡ modulo r (2 ^ n) =
-    ap (λ b. cond b (laid_over p 0 n (wrapped (s x) r)) p) (eq-eqb x x refl) ∙ (laid_whole p n (wrapped (s x) r) below ∙ ap (λ z. modulo z (2 ^ n)) same) in
-    ap (λ (k : ℕ). read_bits n (s x).signed (k % 2 ^ n)) after
-    ∙ (ap (λ (k : ℕ). read_bits n (s x).signed k) (mod-eq_of_lt (modulo-below r (2 ^ n) (pow_pos n))) ∙ read_bits-modulo n (s x).signed r some fits)
+    let same : wrapped (s x) r ≡ r = wrap_bits_same (s x).bits (s x).signed r some fits in
+    whole_assigned s x start (wrapped (s x) r) ∙ (ap (λ z. wrapped (s x) z) same ∙ same)
 
 result_fits : (s : Shapes) (v : Values) (x : ℕ) (start : ℤ) (b : Block) → 1 ≤ (s x).bits → FitsBits (s x).bits (s x).signed (result s x start (taken_block s v b))
 result_fits s v x start b some =

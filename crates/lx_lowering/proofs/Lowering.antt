@@ -17,7 +17,7 @@ use Rattle.lx_fhdl.specs.Lowered.{ArePlain}
 use Rattle.lx_lowering.specs.Flat.{flat_block}
 use Rattle.lx_lowering.specs.Split.{split_block}
 use Rattle.lx_lowering.specs.Constants.{folded}
-use Rattle.lx_lowering.specs.Lowering.{TargetKeeps, TargetsKeep, StmtKeeps, BranchesKeep, ArmsKeep, BlockKeeps, CanBeLowered, lowered_comb, lowered_sync, lowered_domain, lowered, Lowers}
+use Rattle.lx_lowering.specs.Lowering.{TargetKeeps, TargetsKeep, StmtKeeps, BranchesKeep, ArmsKeep, BlockKeeps, CanBeLowered, lowered_comb, lowered_sync, lowered_domain, lowered, SameParts, Lowers}
 use Rattle.lx_lowering.proofs.SplitFacts.{is_flat_block, split_pieces, split_for, split_drives, split_reads, split_keeps, split_depth}
 use Rattle.lx_lowering.proofs.Folded.{lists_folded}
 use Rattle.lx_lowering.proofs.FoldFacts.{folded_result, folded_for, folded_drives, folded_reads, folded_keeps, folded_depth}
@@ -171,11 +171,24 @@ alike c k l =
       sync = λ v f x d r. same_read (shapes c) x (v (At x)) (taken_block (shapes c) v (domain_at c d).stmts) (taken_block (shapes c) v (domain_at (lowered c) d).stmts) (domain_pieces c l v f c.domains k.domains d x);
     }
 
+same_names : (c : Circuit) (ds : List Domain) → map (λ (d : Domain). d.name) (map (lowered_domain c) ds) ≡ map (λ (d : Domain). d.name) ds
+same_names c [] = refl
+same_names c (d ∷ ds) = ap (λ ns. d.name ∷ ns) (same_names c ds)
+
+same_resets : (c : Circuit) (ds : List Domain) → map (λ (d : Domain). d.reset) (map (lowered_domain c) ds) ≡ map (λ (d : Domain). d.reset) ds
+same_resets c [] = refl
+same_resets c (d ∷ ds) = ap (λ rs. d.reset ∷ rs) (same_resets c ds)
+
+same_parts : (c : Circuit) → SameParts c (lowered c)
+unfolding lowered
+same_parts c = record { signals = refl; memories = refl; ports = refl; ios = refl; names = same_names c c.domains; resets = same_resets c c.domains }
+
 -- where flat statements are as they should be, the lowered circuit has the same runs, plain statements, constants where it reads nothing, and an order
 pub lowers : (c : Circuit) → CanBeLowered c → FlatLaws (shapes c) (length c.signals) → Lowers c (lowered c)
 unfolding lowered
 lowers c k l = record {
   runs = same_runs c (lowered_comb c) (map (lowered_domain c) c.domains) c.ios k.signals (alike c k l);
+  parts = same_parts c;
   roles = (alike c k l).roles;
   drivers = record {
     comb = λ x. sym (comb_drives c l k.comb x);

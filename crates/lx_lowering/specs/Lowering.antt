@@ -120,15 +120,25 @@ pub record IsOneConstant (s : Shapes) (x : ℕ) (b : Block) : Type 0 where
 pub record IsFolded (c : Circuit) : Type 0 where
   pub each : (x : ℕ) → block_reads_none (split_block x c.comb) ≡ true → (split_block x c.comb ≡ Done) ⊎ IsOneConstant (shapes c) x (split_block x c.comb)
 
+-- the signals, memories, ports and ios of two circuits are the same, and so are the names and the resets of their domains
+pub record SameParts (c e : Circuit) : Type 0 where
+  pub signals : e.signals ≡ c.signals
+  pub memories : e.memories ≡ c.memories
+  pub ports : e.ports ≡ c.ports
+  pub ios : e.ios ≡ c.ios
+  pub names : map (λ (d : Domain). d.name) e.domains ≡ map (λ (d : Domain). d.name) c.domains
+  pub resets : map (λ (d : Domain). d.reset) e.domains ≡ map (λ (d : Domain). d.reset) c.domains
+
 -- a signal is assigned in the same of two circuits' lists: the combinatorial one, and that of each domain
 pub record DrivenAlike (c e : Circuit) : Type 0 where
   pub comb : (x : ℕ) → drives_block x e.comb ≡ drives_block x c.comb
   pub sync : (x d : ℕ) → drives_block x (domain_at e d).stmts ≡ drives_block x (domain_at c d).stmts
 
--- The lowered circuit has the same runs, its signals have the same roles and the same drivers, its statements are plain,
--- those that read nothing are constants, and its reads have an order too.
+-- The lowered circuit has the same runs and differs in statements alone; its signals have the same roles and the same
+-- drivers, its statements are plain, those that read nothing are constants, and its reads have an order too.
 pub record Lowers (c e : Circuit) : Type 0 where
   pub runs : HaveSameRuns c e
+  pub parts : SameParts c e
   pub roles : (x : ℕ) → role c x ≡ role e x
   pub drivers : DrivenAlike c e
   pub comb : ArePlain e.comb
