@@ -120,7 +120,7 @@ mutual
       then_leaves x (taken s v st) (taken_block s v ss) (stmt_leaves s v x st both.0) (block_leaves s v x ss both.1) p
 
 -- one after the other, under two valuations
-then_same : (x : ℕ) (as_ bs cs ds : List Piece) → ((p : ℕ) → after_pieces x p as_ ≡ after_pieces x p cs) → ((p : ℕ) → after_pieces x p bs ≡ after_pieces x p ds) → (p : ℕ) → after_pieces x p (as_ ++ bs) ≡ after_pieces x p (cs ++ ds)
+pub then_same : (x : ℕ) (as_ bs cs ds : List Piece) → ((p : ℕ) → after_pieces x p as_ ≡ after_pieces x p cs) → ((p : ℕ) → after_pieces x p bs ≡ after_pieces x p ds) → (p : ℕ) → after_pieces x p (as_ ++ bs) ≡ after_pieces x p (cs ++ ds)
 then_same x as_ bs cs ds h k p =
     after_append x p as_ bs ∙ (k (after_pieces x p as_) ∙ (ap (λ q. after_pieces x q ds) (h p) ∙ sym (after_append x p cs ds)))
 

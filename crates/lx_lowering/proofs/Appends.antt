@@ -31,3 +31,11 @@ depth_append (Then x xs) b = omega (arith, depth_append xs b)
 pub keeps_append : (s : Shapes) (n : ℕ) (a b : Block) → BlockKeeps s n a → BlockKeeps s n b → BlockKeeps s n (append a b)
 keeps_append s n Done b p q = q
 keeps_append s n (Then x xs) b p q = (p.0, keeps_append s n xs b p.1 q)
+
+pub append_done : (a : Block) → append a Done ≡ a
+append_done Done = refl
+append_done (Then st ss) = ap (λ b. Then st b) (append_done ss)
+
+pub append_all : (a b d : Block) → append (append a b) d ≡ append a (append b d)
+append_all Done b d = refl
+append_all (Then st ss) b d = ap (λ r. Then st r) (append_all ss b d)

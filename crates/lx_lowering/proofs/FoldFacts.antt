@@ -1,15 +1,13 @@
 -- Statements of one signal that read nothing give what the constant in their place gives.
 use Rattle.std.proofs.Common.{◌≡◌, ℕ, ℤ, ◌%◌, ◌^◌, ◌<◌, ◌≤◌, Bool, true, false, ◌&&◌, ◌||◌, not, nat_eq, refl, sym, ◌∙◌, ap, arith, eqb-true, eq-eqb}
 use Rattle.std.proofs.Math.Bool.{or-false, and-true, and-false}
-use Rattle.std.proofs.lemmas.Bool.{and_parts, or_from, ne_eqb, le-leb}
-use Rattle.std.specs.Prelude.{None, nat_le}
+use Rattle.std.proofs.lemmas.Bool.{and_parts, or_from}
 use Rattle.std.proofs.lemmas.Nat.{pow_pos, mod_below}
-use Rattle.lx_num.specs.declared.Shape.{Shape}
 use Rattle.lx_num.specs.Ints.{modulo, read_bits, wrapped, FitsBits}
 use Rattle.lx_num.proofs.Ranges.{FitsBits-read_bits, wrap_bits_same}
 use Rattle.lx_circuit.specs.Places.{Place, Values}
 use Rattle.lx_circuit.specs.Terms.{Term, Terms, Constant, Signal, Unary, Binary, Mux, Cat, Replicate, Slice, Pick, Fetch, NoTerm, MoreTerms}
-use Rattle.lx_circuit.specs.Shapes.{Shapes, constant_fault}
+use Rattle.lx_circuit.specs.Shapes.{Shapes}
 use Rattle.lx_circuit.specs.Statements.{Target, Whole, Part, CatTarget, PickTarget, Stmt, Assign, If, Case, NoBranch, Branch, Block, Done, Then, taken_block, after_pieces, result, is_target, drives, drives_block}
 use Rattle.lx_circuit.specs.Reads.{names, some_names, target_names, reads, reads_block}
 use Rattle.lx_circuit.proofs.Frames.{block_same}
@@ -20,6 +18,7 @@ use Rattle.lx_fhdl.specs.Lowered.{is_plain_target, is_done, is_for, are_for}
 use Rattle.lx_lowering.specs.Flat.{one}
 use Rattle.lx_lowering.specs.Constants.{names_none, all_name_none, reads_none, block_reads_none, zeros, constant_of, or_constant, folded}
 use Rattle.lx_lowering.specs.Lowering.{BlockKeeps}
+use Rattle.lx_lowering.proofs.Picks.{small_constant}
 
 -- ---- what reads nothing
 
@@ -159,15 +158,9 @@ folded_reads s x z y start b =
     by_fold s x start b (λ c. reads_block z y c ≡ true → reads_block z y b ≡ true) (λ e. e)
     (λ d r e. absurd (let n : ((nat_eq x z && false) || false) ≡ false = or-false (nat_eq x z && false) ∙ and-false (nat_eq x z) in cc))
 
-constant_sound : (a : Shape) → IsSmall a → constant_fault a ≡ None
-constant_sound a small =
-    let some : nat_eq a.bits 0 ≡ false = ne_eqb a.bits 0 (λ e. omega (arith, small.some, e)) in
-    let most : nat_le a.bits 127 ≡ true = le-leb a.bits 127 small.most in
-    rw (some, most) refl
-
 pub folded_keeps : (s : Shapes) (n x : ℕ) (start : ℤ) (b : Block) → x < n → IsSmall (s x) → BlockKeeps s n b → BlockKeeps s n (folded s x start b)
 folded_keeps s n x start b lt small k =
-    by_fold s x start b (λ c. BlockKeeps s n c) k (λ d r. ((lt, small.most, record { sound = refl; fault = constant_sound (s x) small }), tt))
+    by_fold s x start b (λ c. BlockKeeps s n c) k (λ d r. ((lt, small.most, record { sound = refl; fault = small_constant (s x) small }), tt))
 
 stmt_deep : (st : Stmt) → 1 ≤ stmt_depth st
 stmt_deep (Assign t e) = omega arith

@@ -13,7 +13,7 @@ use Rattle.lx_fhdl.specs.Keeping.{block_depth}
 use Rattle.lx_fhdl.specs.Lowered.{is_done, is_for, are_for, ArePlain}
 use Rattle.lx_lowering.specs.Flat.{append}
 use Rattle.lx_lowering.specs.Lowering.{BlockKeeps, lists_from}
-use Rattle.lx_lowering.proofs.SplitFacts.{taken_append, drives_append, reads_append, keeps_append, depth_append}
+use Rattle.lx_lowering.proofs.Appends.{taken_append, drives_append, reads_append, keeps_append, depth_append}
 use Rattle.lx_lowering.proofs.FoldFacts.{for_drives}
 
 -- ---- a signal reads only where it is driven

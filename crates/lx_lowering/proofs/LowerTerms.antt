@@ -2,7 +2,7 @@
 use Rattle.std.proofs.Common.{◌≡◌, ℕ, ◌+◌, ◌-◌, ◌*◌, ◌^◌, ◌<◌, ◌≤◌, Bool, true, false, ◌&&◌, ◌||◌, List, ◌∷◌, refl, sym, ◌∙◌, ap, subst, arith, nat_lt, nat_le}
 use Rattle.std.specs.Prelude.{ℤ, pos, negsuc}
 use Rattle.std.proofs.Math.Nat.{pow-le-pow_right, div-eq_of_lt}
-use Rattle.std.proofs.lemmas.Bool.{cond_both, leb-true, or_parts, and_parts, and_from}
+use Rattle.std.proofs.lemmas.Bool.{cond_both, leb-true, or_parts, and_parts, and_from, or_from}
 use Rattle.lx_num.specs.declared.Shape.{Shape}
 use Rattle.lx_num.specs.Ints.{unsigned, floor_div, field_of, FitsBits, Fits, wrapped}
 use Rattle.lx_num.specs.Fewest.{magnitude_of}
@@ -20,7 +20,7 @@ use Rattle.lx_fhdl.proofs.Operators.{unsigned_operand, index_unsigned}
 use Rattle.lx_lowering.specs.Terms.{never, is_item, pick_from, cut_amount, lower_binary, lower_term, lower_terms}
 use Rattle.lx_lowering.specs.Lowering.{TermKeeps, has_some}
 use Rattle.lx_lowering.proofs.TermFacts.{TermsKeep, AreSmall, AreFit, constant_own, unary_of, unary_own, binary_left, binary_right, binary_own, mux_cond, mux_so, mux_other, mux_own, first_keeps, rest_keeps, cat_some, cat_parts, cat_own, replicate_of, replicate_own, slice_of, slice_own, pick_some, pick_items, pick_index, pick_own, fetch_of, fetch_own, keeps_constant, keeps_unary, keeps_binary, keeps_mux, keeps_more, keeps_cat, keeps_replicate, keeps_slice, keeps_pick, keeps_fetch, term_small, term_fits}
-use Rattle.lx_lowering.proofs.Picks.{held, neither, pick_from_no_name, picked_shape, picked_value, picked_keeps}
+use Rattle.lx_lowering.proofs.Picks.{held, pick_from_no_name, picked_shape, picked_value, picked_keeps}
 
 -- ---- shifts by all bits and more
 
@@ -132,8 +132,8 @@ lower_binary_keeps s n o a b k =
 
 lower_binary_no_name : (s : Shapes) (y : Place) (o : Op) (a b : Term) → names y a ≡ false → names y b ≡ false → names y (lower_binary s o a b) ≡ false
 lower_binary_no_name s y o a b e f =
-    binary_cases (λ t. names y t ≡ false) s o a b (neither (names y a) (names y b) e f)
-    (λ _. neither (names y a) (names y (cut_amount (shape_of s a).bits b)) e (cut_no_name (shape_of s a).bits y b f))
+    binary_cases (λ t. names y t ≡ false) s o a b (or_from (names y a) (names y b) e f)
+    (λ _. or_from (names y a) (names y (cut_amount (shape_of s a).bits b)) e (cut_no_name (shape_of s a).bits y b f))
 
 -- ---- the shape
 
@@ -279,8 +279,8 @@ mutual
   lower_no_name s y (Mux c a b) e =
       let p = or_parts (names y c) (names y a || names y b) e in
       let q = or_parts (names y a) (names y b) p.1 in
-      neither (names y (lower_term s c)) (names y (lower_term s a) || names y (lower_term s b)) (lower_no_name s y c p.0)
-      (neither (names y (lower_term s a)) (names y (lower_term s b)) (lower_no_name s y a q.0) (lower_no_name s y b q.1))
+      or_from (names y (lower_term s c)) (names y (lower_term s a) || names y (lower_term s b)) (lower_no_name s y c p.0)
+      (or_from (names y (lower_term s a)) (names y (lower_term s b)) (lower_no_name s y a q.0) (lower_no_name s y b q.1))
   lower_no_name s y (Cat parts) e = lowers_no_name s y parts e
   lower_no_name s y (Replicate a count) e = lower_no_name s y a e
   lower_no_name s y (Slice a low high) e = lower_no_name s y a e
@@ -289,13 +289,13 @@ mutual
       pick_from_no_name s y 0 (lower_terms s items) (lower_term s i) (lowers_no_name s y items p.0) (lower_no_name s y i p.1)
   lower_no_name s y (Fetch m width i) e =
       let p = or_parts (is_word m y) (names y i) e in
-      neither (is_word m y) (names y (lower_term s i)) p.0 (lower_no_name s y i p.1)
+      or_from (is_word m y) (names y (lower_term s i)) p.0 (lower_no_name s y i p.1)
 
   lowers_no_name : (s : Shapes) (y : Place) (ts : Terms) → some_names y ts ≡ false → some_names y (lower_terms s ts) ≡ false
   lowers_no_name s y NoTerm e = refl
   lowers_no_name s y (MoreTerms t ts) e =
       let p = or_parts (names y t) (some_names y ts) e in
-      neither (names y (lower_term s t)) (some_names y (lower_terms s ts)) (lower_no_name s y t p.0) (lowers_no_name s y ts p.1)
+      or_from (names y (lower_term s t)) (some_names y (lower_terms s ts)) (lower_no_name s y t p.0) (lowers_no_name s y ts p.1)
 
 -- a lowered term names only what the term names
 pub lower_names : (s : Shapes) (y : Place) (t : Term) → names y (lower_term s t) ≡ true → names y t ≡ true

@@ -2,7 +2,7 @@
 use Rattle.std.proofs.Common.{◌≡◌, ℕ, ◌+◌, ◌-◌, ◌^◌, ◌<◌, ◌≤◌, Bool, true, false, ◌||◌, cond, List, [], ◌∷◌, refl, sym, ◌∙◌, ap, subst, arith, suc, zero, nat_lt, nat_eq, max}
 use Rattle.std.specs.Prelude.{ℤ, pos, negsuc, Option, Some, None, min}
 use Rattle.std.specs.Ordering.{int_eq}
-use Rattle.std.proofs.lemmas.Bool.{cond_both, ltb-true, ltb-false, le-leb, ne_eqb, eqb-true, eqb-false, or_parts, or_right}
+use Rattle.std.proofs.lemmas.Bool.{cond_both, ltb-true, ltb-false, le-leb, ne_eqb, eqb-true, eqb-false, or_parts, or_right, or_from}
 use Rattle.std.proofs.Math.Bool.{or-false}
 use Rattle.std.proofs.lemmas.Bool.Decides.{same_from_decides, Decides-eqb, Decides-int_eq, Decides-like}
 use Rattle.lx_num.specs.declared.Shape.{Shape}
@@ -170,17 +170,14 @@ pick_from_keeps s n k t (MoreTerms u us) i h keeps m l =
     (pick_from_keeps s n (k + 1) u us i h keeps (rest_keeps s n t (MoreTerms u us) m) (omega (arith, others_bits a (shape_of s u) (shapes_of s us))))
     (ap (λ (b : Shape). too_wide b.bits) whole ∙ narrow (pick_shape (shapes_of s (MoreTerms t (MoreTerms u us)))).bits l)
 
-pub neither : (a b : Bool) → a ≡ false → b ≡ false → (a || b) ≡ false
-neither a b e f = ap (λ (c : Bool). c || b) e ∙ f
-
 -- the choices name no signal that the items and the index don't
 pub pick_from_no_name : (s : Shapes) (y : Place) (k : ℕ) (ts : Terms) (i : Term) → some_names y ts ≡ false → names y i ≡ false → names y (pick_from s k ts i) ≡ false
 pick_from_no_name s y k NoTerm i e f = refl
 pick_from_no_name s y k (MoreTerms t NoTerm) i e f = (or_parts (names y t) false e).0
 pick_from_no_name s y k (MoreTerms t (MoreTerms u us)) i e f =
     let p = or_parts (names y t) (some_names y (MoreTerms u us)) e in
-    neither (names y (is_item s i k)) (names y t || names y (pick_from s (k + 1) (MoreTerms u us) i)) (item_no_name s y i k f)
-    (neither (names y t) (names y (pick_from s (k + 1) (MoreTerms u us) i)) p.0 (pick_from_no_name s y (k + 1) (MoreTerms u us) i p.1 f))
+    or_from (names y (is_item s i k)) (names y t || names y (pick_from s (k + 1) (MoreTerms u us) i)) (item_no_name s y i k f)
+    (or_from (names y t) (names y (pick_from s (k + 1) (MoreTerms u us) i)) p.0 (pick_from_no_name s y (k + 1) (MoreTerms u us) i p.1 f))
 
 -- ---- a pick that keeps, and its choices
 

@@ -7,8 +7,8 @@ use Rattle.std.proofs.lemmas.Bool.{cases_lt, cases_eq, lt-ltb, le-ltb, eq-eqb, n
 use Rattle.std.proofs.Math.Nat.{mod-eq_of_lt, div-eq_of_lt, pow-le-pow_right}
 use Rattle.std.proofs.lemmas.List.{append-nil}
 use Rattle.lx_num.specs.declared.Shape.{Shape}
-use Rattle.lx_num.specs.Ints.{wrapped, floor_div, Fits, FitsBits}
-use Rattle.lx_num.proofs.Ranges.{pos_fits, wrap_bits_same, fits_pos, fits_magnitude}
+use Rattle.lx_num.specs.Ints.{floor_div, Fits, FitsBits}
+use Rattle.lx_num.proofs.Ranges.{pos_fits, fits_magnitude}
 use Rattle.lx_num.proofs.Ints.{halves}
 use Rattle.lx_tables.specs.declared.operators.Op.TheVariants as op
 use Rattle.lx_circuit.specs.Places.{Place, Values, At}
@@ -22,6 +22,7 @@ use Rattle.lx_lowering.specs.Terms.{never, is_item, lower_term}
 use Rattle.lx_lowering.specs.Flat.{when, some_when, without_low, is_last, item_assigns, assigns, parts_assigns, items_assigns}
 use Rattle.lx_lowering.specs.Lowering.{TermKeeps, TargetKeeps, TargetsKeep}
 use Rattle.lx_lowering.proofs.Appends.{both_taken}
+use Rattle.lx_lowering.proofs.Picks.{held}
 
 -- what lowering keeps of a term, its value aside
 pub record ShapeLaws (s : Shapes) (n : ℕ) : Type 0 where
@@ -67,10 +68,6 @@ some_when_taken s v c Done false e = refl
 some_when_taken s v c (Then x xs) t e = when_taken s v c (Then x xs) t e
 
 -- ---- the number of an index
-
--- a number below 2 to the bits, as a constant of the shape
-pub constant_value : (a : Shape) (k : ℕ) → 1 ≤ a.bits → a.signed ≡ false → k < 2 ^ a.bits → wrapped a (pos k) ≡ pos k
-constant_value a k h e p = wrap_bits_same a.bits a.signed (pos k) h (let P : Bool → Type 0 = λ b. FitsBits a.bits b (pos k) in subst P (sym e) (fits_pos a.bits k p))
 
 -- an index is its count
 pub index_is : (a : Shape) (z : ℤ) → a.signed ≡ false → Fits a z → (z ≡ pos (count_of z)) × (count_of z < 2 ^ a.bits)
@@ -138,7 +135,7 @@ item_value s v i k x =
     elim (cases_lt k (2 ^ a.bits)) [
       | inl p ↦
           ap (λ b. value_of s v (cond b (Binary op.Eq i (Constant (pos k) a)) never)) (lt-ltb k (2 ^ a.bits) p)
-          ∙ ap (λ y. flag (int_eq (value_of s v i) y)) (constant_value a k x.small.some x.plain p)
+          ∙ ap (λ y. flag (int_eq (value_of s v i) y)) (held a k x.small.some x.plain p)
           ∙ ap (λ y. flag (int_eq y (pos k))) z.0
           ∙ ap flag (int_eq_pos (count_at s v i) k)
       | inr p ↦
@@ -153,7 +150,7 @@ last_value s v i k x =
     elim (cases_lt k (2 ^ a.bits)) [
       | inl p ↦
           ap (λ b. value_of s v (cond b (Binary op.Ge i (Constant (pos k) a)) never)) (lt-ltb k (2 ^ a.bits) p)
-          ∙ ap (λ y. flag (not (int_lt (value_of s v i) y))) (constant_value a k x.small.some x.plain p)
+          ∙ ap (λ y. flag (not (int_lt (value_of s v i) y))) (held a k x.small.some x.plain p)
           ∙ ap (λ y. flag (not (int_lt y (pos k)))) z.0
       | inr p ↦
           ap (λ b. value_of s v (cond b (Binary op.Ge i (Constant (pos k) a)) never)) (le-ltb k (2 ^ a.bits) p)

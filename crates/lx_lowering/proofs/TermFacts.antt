@@ -157,7 +157,7 @@ fetch_own s n m width i k = none_right (fault_of s i) (constant_fault (unsigned 
 
 -- ---- terms that keep, of parts that keep
 
-after_none : (f g : Option WidthFault) → f ≡ None → g ≡ None → or_else f g ≡ None
+pub after_none : (f g : Option WidthFault) → f ≡ None → g ≡ None → or_else f g ≡ None
 after_none f g e h = ap (λ (o : Option WidthFault). or_else o g) e ∙ h
 
 pub keeps_constant : (s : Shapes) (n : ℕ) (value : ℤ) (a : Shape) → constant_fault a ≡ None → TermKeeps s n (Constant value a)
