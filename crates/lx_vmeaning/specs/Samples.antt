@@ -1,5 +1,5 @@
 -- Modules that are run by hand: one with a memory, and one with two clocks.
-use Rattle.std.specs.Prelude.{ℕ, Bool, true, false, List, [], ◌∷◌, Some, None, codes}
+use Rattle.std.specs.Prelude.{ℕ, Bool, true, false, List, [], ◌∷◌, Some, None, codes, ◌++◌}
 use Rattle.lx_vtext.specs.declared.operators.BinOp.TheVariants as op
 use Rattle.lx_vtext.specs.Tree.{Name, VExpr, Net, Literal, Word, Binary, Whole, Part, WholeWord, PartWord, VStmt, Assign, When, NoElse, VBlock, EndBlock, InBlock, VLiteral, VNet, VPort, NetDecl, MemoryDecl, VSet, VAssign, VAlways, VModule}
 
@@ -98,3 +98,18 @@ two_clocks = record {
       always (InBlock (Assign (Whole s) true (number 4 0)) (one_line (Assign (Whole s) true (Binary (Net p) op.Add (Net q)))))
       ∷ at_rise c (one_line (Assign (Part p 2 1) false (Net q))) ∷ at_rise e (one_line (Assign (Whole q) false (Net p))) ∷ [];
 }
+
+-- ---- their texts
+
+abbrev pub with_memory_text : List ℕ
+with_memory_text =
+    codes "module top (\n    input wire c,\n    input wire we,\n    input wire [1:0] adr,\n    input wire [7:0] d,\n"
+    ++ codes "    output wire [7:0] r\n);\nreg [7:0] m [0:2];\ninitial begin\n    m[0] = 8'd1;\n    m[1] = 4'sd15;\n"
+    ++ codes "    m[2] = 9'd259;\nend\nassign r = m[adr];\nalways @(posedge c) begin\n    if (we) begin\n"
+    ++ codes "        m[adr] <= d;\n        m[adr][3:0] <= 4'd5;\n    end\nend\nendmodule\n"
+
+abbrev pub two_clocks_text : List ℕ
+two_clocks_text =
+    codes "module top (\n    input wire c,\n    input wire e,\n    output reg [3:0] s = 4'd0\n);\nreg [3:0] p = 4'd1;\n"
+    ++ codes "reg [3:0] q = 4'd10;\nalways @(*) begin\n    s = 4'd0;\n    s = (p + q);\nend\nalways @(posedge c) begin\n"
+    ++ codes "    p[2:1] <= q;\nend\nalways @(posedge e) begin\n    q <= p;\nend\nendmodule\n"

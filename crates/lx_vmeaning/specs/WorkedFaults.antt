@@ -1,7 +1,8 @@
 -- Modules that have no cycle meaning, each one step away from a module that has one.
-use Rattle.std.specs.Prelude.{ℕ, Bool, true, false, List, [], ◌∷◌, ◌++◌, codes}
+use Rattle.std.specs.Prelude.{◌≡◌, ℕ, Bool, true, false, List, [], ◌∷◌, ◌++◌, codes}
 use Rattle.lx_vtext.specs.declared.operators.BinOp.TheVariants as op
 use Rattle.lx_vtext.specs.Tree.{Name, VExpr, Net, PartSelect, Word, Binary, Replication, Whole, Part, WholeWord, Assign, When, NoElse, VBlock, EndBlock, InBlock, VDecl, NetDecl, MemoryDecl, VSet, VAssign, VAlways, VModule}
+use Rattle.lx_vtext.specs.Printed.{module_text}
 use Rattle.lx_vmeaning.specs.Cycle.{HasCycleMeaning}
 use Rattle.lx_vmeaning.specs.Samples.{wire, literal, register, input, output, number, assign, at_rise, always, one_line, set_line, c, m, q, r, s}
 
@@ -28,7 +29,7 @@ abbrev pub keeps : VBlock
 keeps = one_line (Assign (Whole q) false (Net s))
 
 abbrev pub writes : VBlock
-writes = one_line (Assign (WholeWord m (Net a)) false (Net q))
+writes = one_line (Assign (WholeWord m (PartSelect a 0 0)) false (Net q))
 
 -- what can be changed: more declarations, the initial blocks, assigns, and blocks
 abbrev pub made : List VDecl → List (List VSet) → List VAssign → List VAlways → VModule
@@ -52,6 +53,13 @@ blocks = always sum ∷ at_rise c keeps ∷ at_rise c writes ∷ []
 -- y = (a + q) beside these blocks
 abbrev pub plain : VModule
 plain = made [] lines (assign y value ∷ []) blocks
+
+abbrev pub plain_text : List ℕ
+plain_text =
+    codes "module top (\n    input wire c,\n    input wire [3:0] a,\n    output wire [3:0] y\n);\nreg [3:0] q = 4'd0;\n"
+    ++ codes "reg [3:0] s = 4'd0;\nreg [3:0] m [0:1];\ninitial begin\n    m[0] = 4'd9;\n    m[1] = 4'd9;\nend\n"
+    ++ codes "assign y = (a + q);\nalways @(*) begin\n    s = 4'd0;\n    s = (a + y);\nend\nalways @(posedge c) begin\n"
+    ++ codes "    q <= s;\nend\nalways @(posedge c) begin\n    m[a[0:0]] <= q;\nend\nendmodule\n"
 
 abbrev pub declaring : VDecl → VModule
 declaring x = made (x ∷ []) lines (assign y value ∷ []) blocks
@@ -93,6 +101,7 @@ sets blocking n e = one_line (Assign (Whole n) blocking e)
 -- The plain module has a cycle meaning, and none of the others has one.
 pub record FaultsAreRefused : Type 0 where
   pub plain_has_meaning : HasCycleMeaning plain
+  pub plain_has_text : module_text plain ≡ plain_text
   -- names
   pub declared_twice : HasNone (declaring (memory 4 q))
   pub undeclared : HasNone (reading (Net r))

@@ -4,8 +4,9 @@ use Rattle.std.specs.Str.{bytes_eq}
 use Rattle.lx_vtext.specs.Tree.{Name, Net, Word}
 use Rattle.lx_vmeaning.specs.Meaning.{Sizes, Valuation, meaning, own}
 use Rattle.lx_vmeaning.specs.Runs.{VStep, IsVView}
+use Rattle.lx_vtext.specs.Printed.{module_text}
 use Rattle.lx_vmeaning.specs.Cycle.{HasCycleMeaning}
-use Rattle.lx_vmeaning.specs.Samples.{c, we, adr, d, r, m, e, p, q, s, with_memory, two_clocks}
+use Rattle.lx_vmeaning.specs.Samples.{c, we, adr, d, r, m, e, p, q, s, with_memory, two_clocks, with_memory_text, two_clocks_text}
 
 abbrev pub is_name : Name → Name → Bool
 is_name k n = bytes_eq n k
@@ -40,6 +41,8 @@ places = record { nets = λ n. 3; words = λ n k. k }
 pub record RunsAreWorked : Type 0 where
   pub memory_has_meaning : HasCycleMeaning with_memory
   pub clocks_have_meaning : HasCycleMeaning two_clocks
+  pub memory_has_text : module_text with_memory ≡ with_memory_text
+  pub clocks_have_text : module_text two_clocks ≡ two_clocks_text
   -- 4'sd15 is -1, which is 255 in eight bits; 9'd259 is cut to 3
   pub first_words : (v : Valuation) → IsVView with_memory [] (driven 0 1 0) v → (v.words m 0 ≡ 1) × (v.words m 1 ≡ 255) × (v.words m 2 ≡ 3) × (v.nets r ≡ 255)
   -- both writes of one edge take place, the later one in its bits alone; nothing is written without an edge, or past the end

@@ -1,13 +1,16 @@
 use Rattle.std.proofs.Common.{refl, arith}
 use Rattle.std.proofs.lemmas.Bool.{false≢true}
+use Rattle.lx_vtext.specs.Printed.{number_text, literal_text, range_text, head_text, memory_text, set_text, initial_text, assign_text, always_text, module_text}
 use Rattle.lx_vmeaning.specs.Samples.{s}
 use Rattle.lx_vmeaning.specs.WorkedFaults.{y}
 use Rattle.lx_vmeaning.proofs.Worked.{plain_meaning}
 use Rattle.lx_vmeaning.proofs.laws.faults_are_refused.Goals as goal
 
 pub returns : goal.returns
+unfolding number_text literal_text range_text head_text memory_text set_text initial_text assign_text always_text module_text
 returns c = record {
   plain_has_meaning = plain_meaning;
+  plain_has_text = refl;
   declared_twice = λ h. false≢true h.names.declared_once;
   undeclared = λ h. false≢true h.names.assigns;
   memory_read_as_net = λ h. false≢true h.names.assigns;

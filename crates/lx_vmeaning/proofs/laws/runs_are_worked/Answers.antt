@@ -1,4 +1,5 @@
 use Rattle.std.proofs.Common.{refl}
+use Rattle.lx_vtext.specs.Printed.{number_text, literal_text, range_text, head_text, memory_text, set_text, initial_text, assign_text, always_text, module_text}
 use Rattle.lx_vmeaning.specs.Samples.{m, p, q, r, s}
 use Rattle.lx_vmeaning.specs.WorkedRuns.{driven, three_steps, no_inputs, edges}
 use Rattle.std.specs.Prelude.{true, false, [], ◌∷◌}
@@ -6,9 +7,12 @@ use Rattle.lx_vmeaning.proofs.Worked.{memory_meaning, clocks_meaning, memory_vie
 use Rattle.lx_vmeaning.proofs.laws.runs_are_worked.Goals as goal
 
 pub returns : goal.returns
+unfolding number_text literal_text range_text head_text memory_text set_text initial_text assign_text always_text module_text
 returns c = record {
   memory_has_meaning = memory_meaning;
   clocks_have_meaning = clocks_meaning;
+  memory_has_text = refl;
+  clocks_have_text = refl;
   first_words = λ v h. let is = memory_view [] (driven 0 1 0) v h in (is.words m 0, is.words m 1, is.words m 2, is.nets r);
   three_later = λ v h. let is = memory_view three_steps (driven 0 1 0) v h in (is.words m 0, is.words m 1, is.words m 2, is.words m 3, is.nets r);
   read_past = λ v h. (memory_view three_steps (driven 0 3 0) v h).nets r;
