@@ -10,7 +10,7 @@ use Rattle.lx_fhdl.specs.declared.design.Design.{Design}
 use Rattle.lx_emission.specs.Naming.{has_net, node_net, clock, memory_name}
 use Rattle.lx_emission.specs.Memories.{memory_decl, first_words, memory_always}
 use Rattle.lx_emission.specs.Nodes.{node_shape, node_text}
-use Rattle.lx_emission.specs.Signals.{Drive, Input, Undriven, CombAssign, CombBlock, Sync, drive, signal_net, signal_assign, signal_always}
+use Rattle.lx_emission.specs.Signals.{Drive, Input, drive, signal_net, signal_assign, signal_always}
 
 -- the places of a list, from k on
 abbrev pub places_from : {T : Type 0} → ℕ → List T → List ℕ
