@@ -1,27 +1,28 @@
 -- Nodes of an arena: their shapes are small, and their values fit.
-use Rattle.std.proofs.Common.{◌≡◌, ℕ, ◌-◌, ◌*◌, ◌^◌, ◌<◌, ◌≤◌, Bool, true, false, cond, ◌&&◌, List, [], ◌∷◌, length, refl, sym, ◌∙◌, subst, arith, suc, zero, nat_lt}
+use Rattle.std.proofs.Common.{◌≡◌, ℕ, ◌-◌, ◌*◌, ◌<◌, ◌≤◌, Bool, true, false, cond, ◌&&◌, List, [], ◌∷◌, length, refl, sym, ◌∙◌, subst, arith, nat_lt}
 use Rattle.std.specs.Int.{w128}
 use mir.Val.{to_z, of_z}
 use Rattle.std.proofs.lemmas.Int.{to_z-of_z}
 use Rattle.std.specs.Prelude.{FitsSigned, ℤ, pos, Option, Some, None, slice_get, nat_le, nat_eq}
-use Rattle.std.proofs.lemmas.Bool.{ltb-true, leb-true, eqb-false, and_parts, or_left, or_right}
-use Rattle.std.proofs.lemmas.Nat.{pow_pos, pow-add, mul-add-lt, mul-le}
+use Rattle.std.proofs.lemmas.Bool.{ltb-true, leb-true, eqb-false, and_parts}
+use Rattle.std.proofs.lemmas.Nat.{mul-le}
 use Rattle.lx_num.specs.declared.Shape.{Shape}
-use Rattle.lx_num.specs.Ints.{modulo, FitsBits, Fits, shape, unsigned}
-use Rattle.lx_num.proofs.Ints.{modulo-below}
-use Rattle.lx_num.proofs.Ranges.{fits_pos, fits_wider, FitsBits-wrap_bits}
+use Rattle.lx_num.specs.Ints.{FitsBits, Fits, shape, unsigned}
+use Rattle.lx_num.proofs.Ranges.{fits_pos, FitsBits-wrap_bits}
 use Rattle.lx_arena.specs.Lower.{EachLower}
 use Rattle.lx_arena.proofs.Places.{by_places, lower_at}
 use Rattle.lx_circuit.specs.declared.WidthFault.{WidthFault}
 use Rattle.lx_circuit.specs.declared.WidthFault.TheVariants.{BadSlice, BadWidth}
-use Rattle.lx_circuit.specs.Shapes.{joined, joined_bits, bits_sum, some_signed, widest, pick_shape, unary_shape, too_wide, index_fault, constant_fault, replicate_fault, slice_fault}
+use Rattle.lx_circuit.specs.Shapes.{joined, bits_sum, some_signed, widest, pick_shape, unary_shape, too_wide, index_fault, constant_fault, replicate_fault, slice_fault}
 use Rattle.lx_circuit.specs.Places.{Word}
-use Rattle.lx_circuit.specs.Values.{cat_pattern, nth_or_last, count_of}
+use Rattle.lx_circuit.specs.Values.{cat_pattern, count_of}
 use Rattle.lx_fhdl.specs.Below.{ExprId, all_below, expr_below}
+use Rattle.lx_fhdl.specs.Keeping.{EachOf}
 use Rattle.lx_fhdl.specs.Nodes.{IsSmall, EachPlace, EachChild, HasParts, FitsSignal, IsNode, IsShaped, IsFit, IsKnown, shape_at, shapes_at, value_at, values_at, listed, node_shape, node_fault, node_value}
 use Rattle.lx_fhdl.specs.declared.exprs.Expr.{Expr}
 use Rattle.lx_fhdl.specs.declared.exprs.Expr.TheVariants.{Const, Sig, Unary, Binary, Mux, Cat, Pick, Replicate, Slice, Fetch}
-use Rattle.lx_fhdl.proofs.Fitting.{fits_joined, fits_copies, fits_field, fits_mux, fits_zero}
+use Rattle.lx_fhdl.proofs.Items.{EachFits, sum_some, widest_some, cat_below, items_fit}
+use Rattle.lx_fhdl.proofs.Fitting.{fits_copies, fits_field, fits_mux, fits_zero}
 use Rattle.lx_fhdl.proofs.Operators.{binary_fits, binary_small, unary_fits, unary_some, joined_some, not_wide, none_right, by_none}
 
 -- a fact of all lower places is one of each child
@@ -89,13 +90,14 @@ slice_inside a low high e =
     let p = and_parts (nat_lt low high) (nat_le high a.bits) (by_none (nat_lt low high && nat_le high a.bits) BadSlice e) in
     (ltb-true low high p.0, leb-true high a.bits p.1)
 
-sum_some : (hs : List Shape) (parts : List ExprId) → 0 < length parts → EachPlace (λ k. IsSmall (shape_at hs k)) parts → 1 ≤ bits_sum (shapes_at hs parts)
-sum_some hs [] h s = absurd (omega arith)
-sum_some hs (i ∷ is) h s = omega (arith, s.0.some)
+-- the shapes of parts
+each_small : (hs : List Shape) (is : List ExprId) → EachPlace (λ k. IsSmall (shape_at hs k)) is → EachOf IsSmall (shapes_at hs is)
+each_small hs [] h = tt
+each_small hs (i ∷ is) h = (h.0, each_small hs is h.1)
 
-widest_some : (hs : List Shape) (some : Bool) (items : List ExprId) → 0 < length items → EachPlace (λ k. IsSmall (shape_at hs k)) items → 1 ≤ widest some (shapes_at hs items)
-widest_some hs some [] h s = absurd (omega arith)
-widest_some hs some (i ∷ is) h s = omega (arith, s.0.some)
+some_shapes : (hs : List Shape) (is : List ExprId) → 0 < length is → 0 < length (shapes_at hs is)
+some_shapes hs [] h = absurd (omega arith)
+some_shapes hs (i ∷ is) h = omega arith
 
 -- the shape that a node has from small ones is small
 made_small : (own : Shape) (hs : List Shape) (vals : List ℤ) (x : Expr) → node_fault hs x ≡ None → HasParts x → FitsSignal vals own x → EachChild (λ k. IsSmall (shape_at hs k)) x → IsSmall (node_shape (λ _. own) hs x)
@@ -105,9 +107,9 @@ made_small own hs vals (Unary op of) e p f s = record { some = unary_some op (sh
 made_small own hs vals (Binary op left right) e p f s = binary_small op (shape_at hs left.place) (shape_at hs right.place) s.0 s.1 e
 made_small own hs vals (Mux cond then_ else_) e p f s =
     record { some = joined_some (shape_at hs then_.place) (shape_at hs else_.place) s.1.0; most = not_wide (joined (shape_at hs then_.place) (shape_at hs else_.place)).bits e }
-made_small own hs vals (Cat parts) e p f s = record { some = sum_some hs parts p s; most = not_wide (bits_sum (shapes_at hs parts)) e }
+made_small own hs vals (Cat parts) e p f s = record { some = sum_some (shapes_at hs parts) (some_shapes hs parts p) (each_small hs parts s); most = not_wide (bits_sum (shapes_at hs parts)) e }
 made_small own hs vals (Pick items index) e p f s = record {
-  some = widest_some hs (some_signed (shapes_at hs items)) items p s.0;
+  some = widest_some (some_signed (shapes_at hs items)) (shapes_at hs items) (some_shapes hs items p) (each_small hs items s.0);
   most = not_wide (pick_shape (shapes_at hs items)).bits (none_right (index_fault (shape_at hs index.place)) (too_wide (pick_shape (shapes_at hs items)).bits) e);
 }
 made_small own hs vals (Replicate of count) e p f s =
@@ -134,27 +136,9 @@ children_known xs hs vals known l s long n x w e f =
     (each_child (λ k. k < n) n x (λ k h. h) (lower_at expr_below xs l n x e))
 
 -- the values of parts fit
-cat_below : (hs : List Shape) (known : List ℤ) (parts : List ExprId) → cat_pattern (shapes_at hs parts) (values_at known parts) < 2 ^ bits_sum (shapes_at hs parts)
-cat_below hs known [] = omega arith
-cat_below hs known (i ∷ is) =
-    let a = shape_at hs i.place in
-    let p = mul-add-lt (cat_pattern (shapes_at hs is) (values_at known is)) (2 ^ a.bits) (modulo (value_at known i.place) (2 ^ a.bits)) (2 ^ bits_sum (shapes_at hs is)) (cat_below hs known is) (modulo-below (value_at known i.place) (2 ^ a.bits) (pow_pos a.bits)) in
-    omega (arith, p, pow-add 2 a.bits (bits_sum (shapes_at hs is)))
-
-item_fits : (hs : List Shape) (known : List ℤ) (some : Bool) (w : ℕ) (i : ExprId) (is : List ExprId) → widest some (shapes_at hs (i ∷ is)) ≤ w → (some_signed (shapes_at hs (i ∷ is)) ≡ true → some ≡ true) → IsKnown hs known i.place → FitsBits w some (value_at known i.place)
-item_fits hs known some w i is h s k =
-    fits_wider (joined_bits some (shape_at hs i.place)) w some (value_at known i.place) (omega arith)
-    (fits_joined (shape_at hs i.place).bits (shape_at hs i.place).signed some (value_at known i.place) (λ e. s (or_left (shape_at hs i.place).signed (some_signed (shapes_at hs is)) e)) k.fit)
-
-items_fit : (hs : List Shape) (known : List ℤ) (some : Bool) (w : ℕ) (items : List ExprId) (z : ℤ) (n : ℕ) → FitsBits w some z → widest some (shapes_at hs items) ≤ w → (some_signed (shapes_at hs items) ≡ true → some ≡ true) → EachPlace (IsKnown hs known) items → FitsBits w some (nth_or_last z (values_at known items) n)
-items_fit hs known some w [] z n f h s k = f
-items_fit hs known some w (i ∷ is) z zero f h s k = item_fits hs known some w i is h s k.0
-items_fit hs known some w (i ∷ is) z (suc n) f h s k =
-    items_fit hs known some w is (value_at known i.place) n
-    (item_fits hs known some w i is h s k.0)
-    (omega arith)
-    (λ e. s (or_right (shape_at hs i.place).signed (some_signed (shapes_at hs is)) e))
-    k.1
+each_fits : (hs : List Shape) (known : List ℤ) (is : List ExprId) → EachPlace (IsKnown hs known) is → EachFits (shapes_at hs is) (values_at known is)
+each_fits hs known [] h = tt
+each_fits hs known (i ∷ is) h = (h.0.fit, each_fits hs known is h.1)
 
 -- the value of a node fits the shape that it has from its children
 made_fits : (own : Shape) (hs : List Shape) (vals known : List ℤ) (x : Expr) → node_fault hs x ≡ None → FitsSignal vals own x → EachChild (IsKnown hs known) x → Fits (node_shape (λ _. own) hs x) (node_value hs (listed vals) known x)
@@ -165,10 +149,10 @@ made_fits own hs vals known (Binary op left right) e f k =
     binary_fits op (shape_at hs left.place) (shape_at hs right.place) (value_at known left.place) (value_at known right.place) k.0.small k.1.small e k.0.fit k.1.fit
 made_fits own hs vals known (Mux cond then_ else_) e f k =
     fits_mux (shape_at hs then_.place) (shape_at hs else_.place) (value_at known cond.place) (value_at known then_.place) (value_at known else_.place) k.1.0.fit k.1.1.fit
-made_fits own hs vals known (Cat parts) e f k = fits_pos (bits_sum (shapes_at hs parts)) (cat_pattern (shapes_at hs parts) (values_at known parts)) (cat_below hs known parts)
+made_fits own hs vals known (Cat parts) e f k = fits_pos (bits_sum (shapes_at hs parts)) (cat_pattern (shapes_at hs parts) (values_at known parts)) (cat_below (shapes_at hs parts) (values_at known parts))
 made_fits own hs vals known (Pick items index) e f k =
     let some = some_signed (shapes_at hs items) in
-    items_fit hs known some (widest some (shapes_at hs items)) items (pos 0) (count_of (value_at known index.place)) (fits_zero (widest some (shapes_at hs items)) some) (omega arith) (λ g. g) k.0
+    items_fit some (widest some (shapes_at hs items)) (shapes_at hs items) (values_at known items) (pos 0) (count_of (value_at known index.place)) (fits_zero (widest some (shapes_at hs items)) some) (omega arith) (λ g. g) (each_fits hs known items k.0)
 made_fits own hs vals known (Replicate of count) e f k = fits_copies (shape_at hs of.place) count (value_at known of.place)
 made_fits own hs vals known (Slice of low high) e f k = fits_field (value_at known of.place) low (high - low)
 made_fits own hs vals known (Fetch memory width at) e f k = FitsBits-wrap_bits width false (listed vals (Word memory (count_of (value_at known at.place)))) (constant_small (unsigned width) e).some

@@ -4,6 +4,7 @@ pub mod Drafts
 pub mod Fitting
 pub mod Frames
 pub mod Instance
+pub mod Items
 pub mod Kept
 pub mod Machine
 pub mod Meanings
