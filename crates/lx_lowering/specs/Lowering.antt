@@ -5,7 +5,7 @@ use Rattle.lx_circuit.specs.Shapes.{Shapes, shape_of, fault_of}
 use Rattle.lx_circuit.specs.Statements.{Target, Targets, Whole, Part, CatTarget, PickTarget, NoTarget, MoreTargets, Stmt, Assign, If, Case, Branches, NoBranch, Branch, Arms, NoArm, Arm, Block, Done, Then, target_bits, drives_block}
 use Rattle.lx_circuit.specs.Circuit.{Circuit, Made, Domain, shapes, made, domain_at, role}
 use Rattle.lx_circuit.specs.Fitting.{KeepsShapes}
-use Rattle.lx_circuit.specs.Runs.{HaveSameRuns}
+use Rattle.lx_circuit.specs.Runs.{HaveSameRuns, Extends}
 use Rattle.lx_circuit.specs.Reads.{HasOrder}
 use Rattle.lx_fhdl.specs.Nodes.{IsSmall}
 use Rattle.lx_fhdl.specs.Keeping.{EachOf}
@@ -148,3 +148,7 @@ pub record Lowers (c e : Circuit) : Type 0 where
 
 abbrev pub IsLoweringLaw : Type 0
 IsLoweringLaw = (c : Circuit) → CanBeLowered c → Lowers c (lowered c)
+
+-- So lowering can stand before and behind passes that add signals.
+abbrev pub IsExtendingLaw : Type 0
+IsExtendingLaw = (n : ℕ) (c : Circuit) → CanBeLowered c → Extends n c (lowered c)
