@@ -10,6 +10,7 @@ pub mod Machine
 pub mod Meanings
 pub mod Operators
 pub mod Parts
+pub mod Resets
 pub mod Rows
 pub mod Staying
 pub mod StmtTrees

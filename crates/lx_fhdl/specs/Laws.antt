@@ -17,6 +17,8 @@ use Rattle.lx_fhdl.specs.Kept.{is_kept}
 use Rattle.lx_fhdl.specs.Nodes.{IsSmall, IsShaped, IsValued, shape_at, value_at, listed}
 use Rattle.lx_fhdl.specs.Stmts.{node_target, target_at, node_stmt, stmt_at}
 use Rattle.lx_fhdl.specs.Trees.{node_term, term_at}
+use Rattle.lx_fhdl.specs.declared.exprs.SigId.{SigId}
+use Rattle.lx_fhdl.specs.declared.design.Domain.{Domain}
 use Rattle.lx_fhdl.specs.declared.design.Design.{Design}
 use Rattle.lx_fhdl.specs.declared.stmts.Target.{Target}
 use Rattle.lx_fhdl.specs.declared.stmts.Stmt.{Stmt}
@@ -72,3 +74,10 @@ DesignsFit =
 -- The test of what a design keeps is never true of another design.
 abbrev pub TestHolds : Type 0
 TestHolds = (d : Design) → is_kept d ≡ true → Keeps d
+
+-- No signal is the reset of two domains.
+abbrev pub ResetsDiffer : Type 0
+ResetsDiffer =
+    (d : Design) → Keeps d → (j k : ℕ) (x y : Domain) (r : SigId)
+    → slice_get d.domains j ≡ Some x → slice_get d.domains k ≡ Some y
+    → x.reset ≡ Some r → y.reset ≡ Some r → j ≡ k

@@ -5,7 +5,7 @@ ghost use Rattle.lx_fhdl.specs.Rows.{AreRefused, AreSpelled};
 ghost use Rattle.lx_fhdl.specs.Rows as rows;
 ghost use Rattle.lx_fhdl.specs.Instance.{instance};
 ghost use Rattle.lx_fhdl.specs.Keeping.{Keeps};
-ghost use Rattle.lx_fhdl.specs.Laws.{DesignsFit, StmtsStand, TargetsStand, TestHolds, TreesStand, ValuesStand};
+ghost use Rattle.lx_fhdl.specs.Laws.{DesignsFit, ResetsDiffer, StmtsStand, TargetsStand, TestHolds, TreesStand, ValuesStand};
 
 /// The tree at a place is made of the trees of its node's children.
 pub fn tree_law()
@@ -36,6 +36,11 @@ pub fn design_law()
 /// A design that passes the test keeps what designs keep.
 pub fn kept_law()
     ensures { TestHolds }
+{}
+
+/// The resets of two domains are two signals.
+pub fn resets_law()
+    ensures { ResetsDiffer }
 {}
 
 /// A design with a clock domain, a reset, statements of every kind, a memory that is read by a Fetch, and ports of
