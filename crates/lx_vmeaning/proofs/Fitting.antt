@@ -1,5 +1,5 @@
 -- In every settled valuation nets and words fit, and after every step.
-use Rattle.std.proofs.Common.{◌≡◌, ℕ, ◌+◌, ◌-◌, ◌*◌, ◌/◌, ◌%◌, ◌^◌, ◌<◌, ◌≤◌, Bool, true, false, ◌&&◌, ◌||◌, cond, nat_eq, nat_le, nat_lt, refl, sym, ap, subst, ◌∙◌, arith}
+use Rattle.std.proofs.Common.{◌≡◌, ℕ, ◌+◌, ◌-◌, ◌*◌, ◌/◌, ◌%◌, ◌^◌, ◌<◌, ◌≤◌, Bool, true, false, ◌&&◌, cond, nat_eq, nat_le, nat_lt, refl, sym, ap, subst, ◌∙◌, arith}
 use Rattle.std.specs.Prelude.{List, [], ◌∷◌, ◌++◌, Option, Some, None}
 use Rattle.std.specs.List.{list_all}
 use Rattle.std.specs.Str.{bytes_eq}
@@ -15,6 +15,7 @@ use Rattle.lx_vmeaning.specs.Blocks.{stmt_fits, else_fits, block_fits, target_fi
 use Rattle.lx_vmeaning.specs.Cycle.{HasCycleMeaning}
 use Rattle.lx_vmeaning.specs.Fitting.{NetsFit}
 use Rattle.lx_vmeaning.proofs.Bits.{by_cond, stacked}
+use Rattle.lx_vmeaning.proofs.Frames.{some_of}
 
 -- ---- bits of a pattern that become others
 
@@ -131,10 +132,6 @@ mutual
       block_words m v n now ss (run_stmt_words (sizes m) v s words) q.1 r.1 (stmt_words m v n now s words q.0 r.0 p)
 
 -- ---- drivers
-
-some_of : {P : Type 0} (a b : Bool) → (a || b) ≡ true → (a ≡ true → P) → (b ≡ true → P) → P
-some_of true b h p q = p refl
-some_of false b h p q = q h
 
 -- what is known of a name's driver
 abbrev OfDriver : VModule → Name → Driver → Type 0

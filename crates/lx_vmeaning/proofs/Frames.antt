@@ -1,6 +1,8 @@
 -- What a net is hangs on what its driver reads alone.
-use Rattle.std.proofs.Common.{◌≡◌, ℕ, Bool, true, false, [], ◌∷◌, ◌||◌, ◌&&◌, ◌+◌, ◌-◌, ◌*◌, ◌^◌, ◌%◌, cond, refl, ◌∙◌, ap, max, not, nat_eq, ℤ, ◌/◌, eq-eqb}
+use Rattle.std.proofs.Common.{◌≡◌, ℕ, Bool, true, false, ◌∷◌, ◌||◌, ◌&&◌, ◌+◌, ◌-◌, ◌*◌, ◌^◌, ◌%◌, cond, refl, ◌∙◌, ap, max, not, nat_eq, ℤ, ◌/◌}
 use Rattle.std.specs.Str.{bytes_eq}
+use Rattle.std.proofs.lemmas.Bool.{or_left, or_right}
+use Rattle.std.proofs.lemmas.Slice.Eq.{bytes_eq-Decides}
 use Rattle.lx_num.specs.Ints.{read_bits}
 use Rattle.lx_vtext.specs.declared.operators.UnOp.{UnOp}
 use Rattle.lx_vtext.specs.declared.operators.UnOp.TheVariants.{Negate, Invert}
@@ -15,29 +17,20 @@ use Rattle.lx_vmeaning.specs.Loops.{reads, some_reads, stmt_reads, else_reads, b
 abbrev pub AgreeOn : Valuation → Valuation → (Name → Bool) → Type 0
 AgreeOn v u p = (k : Name) → p k ≡ true → v.nets k ≡ u.nets k
 
-or_true_left : (a b : Bool) → a ≡ true → (a || b) ≡ true
-or_true_left a b e = ap (λ z. z || b) e
-
-or_true_right : (a b : Bool) → b ≡ true → (a || b) ≡ true
-or_true_right true b e = refl
-or_true_right false b e = e
+-- what follows from each of two tests follows where one of them holds
+pub some_of : {P : Type 0} (a b : Bool) → (a || b) ≡ true → (a ≡ true → P) → (b ≡ true → P) → P
+some_of true b h p q = p refl
+some_of false b h p q = q h
 
 left_of : (v u : Valuation) (p q : Name → Bool) → AgreeOn v u (λ k. p k || q k) → AgreeOn v u p
-left_of v u p q h k e = h k (or_true_left (p k) (q k) e)
+left_of v u p q h k e = h k (or_left (p k) (q k) e)
 
 right_of : (v u : Valuation) (p q : Name → Bool) → AgreeOn v u (λ k. p k || q k) → AgreeOn v u q
-right_of v u p q h k e = h k (or_true_right (p k) (q k) e)
+right_of v u p q h k e = h k (or_right (p k) (q k) e)
 
 -- a name is itself
 pub same_name : (n : Name) → bytes_eq n n ≡ true
-same_name [] = refl
-same_name (b ∷ bs) = and_both (nat_eq b b) (bytes_eq bs bs) (same_byte b) (same_name bs)
-  where
-    same_byte : (b : ℕ) → nat_eq b b ≡ true
-    same_byte b = eq-eqb b b refl
-
-    and_both : (x y : Bool) → x ≡ true → y ≡ true → (x && y) ≡ true
-    and_both x y e f = ap (λ z. z && y) e ∙ f
+same_name n = (bytes_eq-Decides n n).1 refl
 
 -- the same bits in every context
 abbrev Same : Valuation → Valuation → Meaning → Type 0

@@ -8,6 +8,7 @@ use Rattle.std.proofs.lemmas.Slice.Eq.{bytes_eq-Decides}
 use Rattle.lx_vtext.specs.Tree.{Name, VExpr, VExprs, Net, Literal, PartSelect, Word, Unary, Binary, Conditional, Concatenation, Replication, ToSigned, ToUnsigned, NoMore, More, VStmt, Assign, When, VElse, NoElse, Else, VBlock, EndBlock, InBlock, VPort, VAssign, VAlways, VModule}
 use Rattle.lx_vmeaning.specs.Runs.{Driver, Outside, ByAssign, target_name, sets_stmt, sets_else, sets_block, always_driver, outside_drivers, assign_drivers, block_drivers, first_driver, driver}
 use Rattle.lx_vmeaning.specs.Loops.{reads, some_reads, stmt_reads, else_reads, block_reads, driver_reads}
+use Rattle.lx_vmeaning.proofs.Frames.{some_of}
 
 -- all nets that are read, and all names that are assigned, pass a test
 abbrev mutual
@@ -69,10 +70,6 @@ abbrev pub blocks_ranked : (Name → ℕ) → List VAlways → Bool
 blocks_ranked rank as_ = list_all (λ a. comb_ranked rank a.clock a.body) as_
 
 -- ---- what the tests say
-
-some_of : {P : Type 0} (a b : Bool) → (a || b) ≡ true → (a ≡ true → P) → (b ≡ true → P) → P
-some_of true b h p q = p refl
-some_of false b h p q = q h
 
 named : (f : Name → Bool) (n k : Name) → f n ≡ true → bytes_eq n k ≡ true → f k ≡ true
 named f n k h e = subst (λ (i : Name). f i ≡ true) ((bytes_eq-Decides n k).0 e) h
