@@ -109,7 +109,7 @@ when_reads d names x n s g k body rest l h p q some =
 
 stmt_text_reads : (d : Design) (names : List Name) (now : Bool) (x : ℕ) → Keeps d → (n : Name) (k : ℕ) → is_for x (stmt d k) ≡ true → StmtReads d names x n (stmt d k) (stmt_text d names now k)
 stmt_text_reads d names now x keeps n = text_holds d names now x (λ s v. StmtReads d names x n s v) keeps (record {
-  assigns = λ t c k h l.
+  assigns = λ t c k h made l.
       let target = plain_is_target x t h in
       record {
         drives = target;

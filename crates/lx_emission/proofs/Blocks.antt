@@ -53,23 +53,26 @@ bits_text d n x AllBits = Whole n
 bits_text d n x (SomeBits low len some inside) = Part n (low + len - 1) low
 
 record BitsOf (d : Design) (names : List Name) (x : ℕ) (t : VTarget) : Type 0 where
+  made : x < length d.signals
   chosen : Bits d x
   text : t ≡ bits_text d (net names x) x chosen
 
-part_bits : (d : Design) (names : List Name) (x low len : ℕ) → 1 ≤ len → low + len ≤ (shapes d x).bits → (b : Bool) → BitsOf d names x (if b then Whole (net names x) else Part (net names x) (low + len - 1) low)
-part_bits d names x low len some inside true = record { chosen = AllBits; text = refl }
-part_bits d names x low len some inside false = record { chosen = SomeBits low len some inside; text = refl }
+part_bits : (d : Design) (names : List Name) (x low len : ℕ) → x < length d.signals → 1 ≤ len → low + len ≤ (shapes d x).bits → (b : Bool) → BitsOf d names x (if b then Whole (net names x) else Part (net names x) (low + len - 1) low)
+part_bits d names x low len made some inside true = record { made = made; chosen = AllBits; text = refl }
+part_bits d names x low len made some inside false = record { made = made; chosen = SomeBits low len some inside; text = refl }
 
 -- what the test of a plain target says of the node
 node_bits : (d : Design) (names : List Name) (x : ℕ) (g : ℕ → tree.Target) (o : Option Target) → ((y : Target) → o ≡ Some y → TargetStands (shapes d) (length d.signals) d.exprs y) → is_plain_target x (target_of (term d) g o) ≡ true → BitsOf d names x (target_text d names o)
 node_bits d names x g None w h = absurd (cc)
 node_bits d names x g (Some (target.Whole y)) w h =
-    subst (λ z. BitsOf d names x (Whole (net names z))) (sym (eqb-true y.0 x h)) (record { chosen = AllBits; text = refl })
+    let e : y.0 ≡ x = eqb-true y.0 x h in
+    let made = subst (λ z. z < length d.signals) e (w (target.Whole y) refl) in
+    subst (λ z. BitsOf d names x (Whole (net names z))) (sym e) (record { made = made; chosen = AllBits; text = refl })
 node_bits d names x g (Some (target.Part y low len)) w h =
     let e : y.0 ≡ x = eqb-true y.0 x h in
     let k = w (target.Part y low len) refl in
     subst (λ z. BitsOf d names x (if covers (shapes d z).bits low len then Whole (net names z) else Part (net names z) (low + len - 1) low)) (sym e)
-    (part_bits d names x low len k.1 (subst (λ z. low + len ≤ (shapes d z).bits) e k.2) (covers (shapes d x).bits low len))
+    (part_bits d names x low len (subst (λ z. z < length d.signals) e k.0) k.1 (subst (λ z. low + len ≤ (shapes d z).bits) e k.2) (covers (shapes d x).bits low len))
 node_bits d names x g (Some (target.Cat parts)) w h = absurd (cc)
 node_bits d names x g (Some (target.Pick items index)) w h = absurd (cc)
 
@@ -79,7 +82,7 @@ target_bits d names x keeps k h = node_bits d names x (target_within (term d) d.
 
 -- what holds of an assignment, and of a condition where it holds of all statements inside, holds of each statement for x
 pub record HoldsOfTexts (d : Design) (names : List Name) (now : Bool) (x : ℕ) (P : tree.Stmt → VStmt → Type 0) : Type 0 where
-  pub assigns : (t : tree.Target) (c : Bits d x) (k : ℕ) → is_plain_target x t ≡ true → k < length d.exprs → P (tree.Assign t (term d k)) (Assign (bits_text d (net names x) x c) now (operand d names k))
+  pub assigns : (t : tree.Target) (c : Bits d x) (k : ℕ) → is_plain_target x t ≡ true → x < length d.signals → k < length d.exprs → P (tree.Assign t (term d k)) (Assign (bits_text d (net names x) x c) now (operand d names k))
   pub chooses : (s : ℕ → tree.Stmt) (g : ℕ → VStmt) (k : ℕ) (body rest : List StmtId) → k < length d.exprs → ((j : ℕ) → is_for x (s j) ≡ true → P (s j) (g j))
       → are_for x (block_at s body) ≡ true → are_for x (block_at s rest) ≡ true → 0 < length body + length rest
       → P (tree.If (tree.Branch (term d k) (block_at s body) tree.NoBranch) (block_at s rest)) (When (operand d names k) (block_onto g body EndBlock) (else_text g rest))
@@ -96,7 +99,7 @@ node_holds d names now x P keeps holds s g below (Some (statement.Assign t value
     let k = w (statement.Assign t value line) refl in
     let b = target_bits d names x keeps t.place h in
     subst (λ z. P (tree.Assign (design.target d t.place) (term d value.place)) (Assign z now (operand d names value.place))) (sym b.text)
-    (holds.assigns (design.target d t.place) b.chosen value.place h k.1)
+    (holds.assigns (design.target d t.place) b.chosen value.place h b.made k.1)
 node_holds d names now x P keeps holds s g below (Some (statement.If [] rest line)) w h = absurd (cc)
 node_holds d names now x P keeps holds s g below (Some (statement.If (b ∷ []) rest line)) w h =
     let k = w (statement.If (b ∷ []) rest line) refl in
@@ -116,6 +119,25 @@ within_holds d names now x P keeps holds (suc n) k h =
 pub text_holds : (d : Design) (names : List Name) (now : Bool) (x : ℕ) (P : tree.Stmt → VStmt → Type 0) → Keeps d → HoldsOfTexts d names now x P → (k : ℕ) → is_for x (stmt d k) ≡ true → P (stmt d k) (stmt_text d names now k)
 unfolding fold_at stmt_at stmt_text
 text_holds d names now x P keeps holds k h = within_holds d names now x P keeps holds (suc k) k h
+
+-- ---- a signal that a statement is for is one of the design's
+
+first_made : (n x : ℕ) (s : ℕ → tree.Stmt) → ((j : ℕ) → is_for x (s j) ≡ true → x < n) → (ids : List StmtId) → are_for x (block_at s ids) ≡ true → 0 < length ids → x < n
+first_made n x s h [] plain some = absurd (omega arith)
+first_made n x s h (i ∷ is) plain some = h i.place (and_parts (is_for x (s i.place)) (are_for x (block_at s is)) plain).0
+
+either_made : (n x : ℕ) (s : ℕ → tree.Stmt) → ((j : ℕ) → is_for x (s j) ≡ true → x < n) → (body rest : List StmtId) → are_for x (block_at s body) ≡ true → are_for x (block_at s rest) ≡ true → 0 < length body + length rest → x < n
+either_made n x s h [] rest p q some = first_made n x s h rest q (omega arith)
+either_made n x s h (i ∷ is) rest p q some = first_made n x s h (i ∷ is) p (omega arith)
+
+stmt_made : (d : Design) (x : ℕ) → Keeps d → (k : ℕ) → is_for x (stmt d k) ≡ true → x < length d.signals
+stmt_made d x keeps = text_holds d [] false x (λ s v. x < length d.signals) keeps (record {
+  assigns = λ t c k h made l. made;
+  chooses = λ s g k body rest l h p q some. either_made (length d.signals) x s h body rest p q some;
+})
+
+pub list_made : (d : Design) (x : ℕ) → Keeps d → (ids : List StmtId) → are_for x (block d ids) ≡ true → 0 < length ids → x < length d.signals
+list_made d x keeps ids plain some = first_made (length d.signals) x (stmt d) (stmt_made d x keeps) ids plain some
 
 -- ---- what statements assign
 
@@ -163,7 +185,7 @@ when_sets x n a s g c h (i ∷ is) rest p q some =
 
 stmt_sets : (d : Design) (names : List Name) (now : Bool) (x : ℕ) → Keeps d → (n : Name) → (k : ℕ) → is_for x (stmt d k) ≡ true → sets_stmt n (stmt_text d names now k) ≡ bytes_eq (net names x) n
 stmt_sets d names now x keeps n = text_holds d names now x (λ s v. sets_stmt n v ≡ bytes_eq (net names x) n) keeps (record {
-  assigns = λ t c k h l. ap (λ z. bytes_eq z n) (bits_name d (net names x) x c);
+  assigns = λ t c k h made l. ap (λ z. bytes_eq z n) (bits_name d (net names x) x c);
   chooses = λ s g k body rest l h p q some. when_sets x n (bytes_eq (net names x) n) s g (operand d names k) h body rest p q some;
 })
 
@@ -186,7 +208,7 @@ when_target x n s g c h (i ∷ is) rest p q some = ap (λ o. or_name o (else_tar
 
 stmt_targets : (d : Design) (names : List Name) (now : Bool) (x : ℕ) → Keeps d → (k : ℕ) → is_for x (stmt d k) ≡ true → stmt_target (stmt_text d names now k) ≡ Some (net names x)
 stmt_targets d names now x keeps = text_holds d names now x (λ s v. stmt_target v ≡ Some (net names x)) keeps (record {
-  assigns = λ t c k h l. ap (λ z. Some z) (bits_name d (net names x) x c);
+  assigns = λ t c k h made l. ap (λ z. Some z) (bits_name d (net names x) x c);
   chooses = λ s g k body rest l h p q some. when_target x (net names x) s g (operand d names k) h body rest p q some;
 })
 
@@ -230,7 +252,7 @@ texts_pass : {C : VExpr → Bool} {S : VStmt → Bool} {B : VBlock → Bool} {E 
     → (ids : List StmtId) → are_for x (block d ids) ≡ true → (end : VBlock) → B end ≡ true → B (block_onto (stmt_text d names now) ids end) ≡ true
 texts_pass {C} {S} {B} {E} t d names now x keeps conditions assigns ids plain end e =
     list_passes t x (stmt d) (stmt_text d names now) (text_holds d names now x (λ s v. S v ≡ true) keeps (record {
-      assigns = λ a c k h l. assigns c k l;
+      assigns = λ a c k h made l. assigns c k l;
       chooses = λ s g k body rest l h p q some.
           when_passes t (operand d names k) (block_onto g body EndBlock) (else_text g rest) (conditions k l)
           (list_passes t x s g h body p EndBlock t.done) (else_passes t x s g h rest q);
@@ -362,25 +384,25 @@ pub record IsOwnList (d : Design) (x : ℕ) (ids : List StmtId) : Type 0 where
 own_list : (d : Design) (x : ℕ) (ids : List StmtId) → all_stmts_below (length d.stmts) ids ≡ true → ArePlain (block d ids) → IsOwnList d x (own d x ids)
 own_list d x ids below plain = record { below = own_below d x (length d.stmts) ids below; plain = own_for d x ids plain }
 
-combined_is : (ids js : List StmtId) (o : Option ExprId) → comb_drive ids o ≡ CombBlock js → js ≡ ids
-combined_is ids js None e = cc
-combined_is ids js (Some value) e = absurd (cc)
+comb_is : (ids js : List StmtId) (o : Option ExprId) → comb_drive ids o ≡ CombBlock js → js ≡ ids
+comb_is ids js None e = cc
+comb_is ids js (Some value) e = absurd (cc)
 
-by_combined : (d : Design) (x : ℕ) (ids : List StmtId) (r : Role) → drive_by d x r ≡ CombBlock ids → ids ≡ own d x d.comb
-by_combined d x ids circuit.Input e = absurd (cc)
-by_combined d x ids circuit.Undriven e = absurd (cc)
-by_combined d x ids circuit.Comb e = combined_is (own d x d.comb) ids (single d (own d x d.comb)) e
-by_combined d x ids (circuit.Sync k) e = absurd (cc)
-by_combined d x ids (circuit.Read j) e = absurd (cc)
+by_comb : (d : Design) (x : ℕ) (ids : List StmtId) (r : Role) → drive_by d x r ≡ CombBlock ids → ids ≡ own d x d.comb
+by_comb d x ids circuit.Input e = absurd (cc)
+by_comb d x ids circuit.Undriven e = absurd (cc)
+by_comb d x ids circuit.Comb e = comb_is (own d x d.comb) ids (single d (own d x d.comb)) e
+by_comb d x ids (circuit.Sync k) e = absurd (cc)
+by_comb d x ids (circuit.Read j) e = absurd (cc)
 
 -- the block of `always @(*)` has the statements of the list of the design
-pub combined_list : (d : Design) (x : ℕ) (ids : List StmtId) → drive d x ≡ CombBlock ids → ids ≡ own d x d.comb
+pub comb_list : (d : Design) (x : ℕ) (ids : List StmtId) → drive d x ≡ CombBlock ids → ids ≡ own d x d.comb
 unfolding drive
-combined_list d x ids e = by_combined d x ids (role (circuit_of d) x) e
+comb_list d x ids e = by_comb d x ids (role (circuit_of d) x) e
 
-pub combined_own : (d : Design) (x : ℕ) (ids : List StmtId) → Keeps d → IsLowered d → drive d x ≡ CombBlock ids → IsOwnList d x ids
-combined_own d x ids keeps low e =
-    subst (λ ks. IsOwnList d x ks) (sym (combined_list d x ids e)) (own_list d x d.comb keeps.comb.there low.comb)
+pub comb_own : (d : Design) (x : ℕ) (ids : List StmtId) → Keeps d → IsLowered d → drive d x ≡ CombBlock ids → IsOwnList d x ids
+comb_own d x ids keeps low e =
+    subst (λ ks. IsOwnList d x ks) (sym (comb_list d x ids e)) (own_list d x d.comb keeps.comb.there low.comb)
 
 sync_drives : (d : Design) (x j k : ℕ) (ds : List Domain) (other : Role) → (other ≡ circuit.Sync k → ⊥) → sync_role x j (domains_from d j ds) other ≡ circuit.Sync k → tree.drives_block x (block d (stmts_of k d.sync)) ≡ true
 sync_drives d x j k [] other idle e = absurd (idle e)
@@ -400,39 +422,39 @@ unfolding circuit_of
 role_drives d x k true e = absurd (cc)
 role_drives d x k false e = sync_drives d x 0 k d.domains (read_role x 0 (circuit_of d).ports (idle_role (circuit_of d) x)) (not_sync d x k) e
 
-record IsClocked (d : Design) (x k : ℕ) (ids : List StmtId) (r : Role) : Type 0 where
+record IsSync (d : Design) (x k : ℕ) (ids : List StmtId) (r : Role) : Type 0 where
   same : ids ≡ own d x (stmts_of k d.sync)
   role : r ≡ circuit.Sync k
 
-by_clocked : (d : Design) (x k : ℕ) (ids : List StmtId) (r : Role) → drive_by d x r ≡ Sync k ids → IsClocked d x k ids r
-by_clocked d x k ids circuit.Input e = absurd (cc)
-by_clocked d x k ids circuit.Undriven e = absurd (cc)
-by_clocked d x k ids circuit.Comb e = absurd (not_clocked (own d x d.comb) (single d (own d x d.comb)) e)
+by_sync : (d : Design) (x k : ℕ) (ids : List StmtId) (r : Role) → drive_by d x r ≡ Sync k ids → IsSync d x k ids r
+by_sync d x k ids circuit.Input e = absurd (cc)
+by_sync d x k ids circuit.Undriven e = absurd (cc)
+by_sync d x k ids circuit.Comb e = absurd (not_sync_drive (own d x d.comb) (single d (own d x d.comb)) e)
   where
-    not_clocked : (js : List StmtId) (o : Option ExprId) → comb_drive js o ≡ Sync k ids → ⊥
-    not_clocked js None e = cc
-    not_clocked js (Some value) e = cc
-by_clocked d x k ids (circuit.Read j) e = absurd (cc)
-by_clocked d x k ids (circuit.Sync j) e =
+    not_sync_drive : (js : List StmtId) (o : Option ExprId) → comb_drive js o ≡ Sync k ids → ⊥
+    not_sync_drive js None e = cc
+    not_sync_drive js (Some value) e = cc
+by_sync d x k ids (circuit.Read j) e = absurd (cc)
+by_sync d x k ids (circuit.Sync j) e =
     let domain : j ≡ k = cc in
     let list : own d x (stmts_of j d.sync) ≡ ids = cc in
     record { same = sym list ∙ ap (λ i. own d x (stmts_of i d.sync)) domain; role = ap circuit.Sync domain }
 
 -- a clocked block has the statements of its domain's list
-pub clocked_list : (d : Design) (x k : ℕ) (ids : List StmtId) → drive d x ≡ Sync k ids → ids ≡ own d x (stmts_of k d.sync)
+pub sync_list : (d : Design) (x k : ℕ) (ids : List StmtId) → drive d x ≡ Sync k ids → ids ≡ own d x (stmts_of k d.sync)
 unfolding drive
-clocked_list d x k ids e = (by_clocked d x k ids (role (circuit_of d) x) e).same
+sync_list d x k ids e = (by_sync d x k ids (role (circuit_of d) x) e).same
 
-clocked_drives : (d : Design) (x k : ℕ) (ids : List StmtId) → drive d x ≡ Sync k ids → tree.drives_block x (block d (stmts_of k d.sync)) ≡ true
+list_drives : (d : Design) (x k : ℕ) (ids : List StmtId) → drive d x ≡ Sync k ids → tree.drives_block x (block d (stmts_of k d.sync)) ≡ true
 unfolding drive
-clocked_drives d x k ids e = role_drives d x k (tree.drives_block x (circuit_of d).comb) (by_clocked d x k ids (role (circuit_of d) x) e).role
+list_drives d x k ids e = role_drives d x k (tree.drives_block x (circuit_of d).comb) (by_sync d x k ids (role (circuit_of d) x) e).role
 
-pub clocked_own : (d : Design) (x k : ℕ) (ids : List StmtId) → Keeps d → IsLowered d → drive d x ≡ Sync k ids → IsOwnList d x ids
-clocked_own d x k ids keeps low e =
-    subst (λ ks. IsOwnList d x ks) (sym (clocked_list d x k ids e)) (own_list d x (stmts_of k d.sync) (sync_below d k d.sync keeps.sync) (sync_plain d k d.sync low.sync))
+pub sync_own : (d : Design) (x k : ℕ) (ids : List StmtId) → Keeps d → IsLowered d → drive d x ≡ Sync k ids → IsOwnList d x ids
+sync_own d x k ids keeps low e =
+    subst (λ ks. IsOwnList d x ks) (sym (sync_list d x k ids e)) (own_list d x (stmts_of k d.sync) (sync_below d k d.sync keeps.sync) (sync_plain d k d.sync low.sync))
 
-pub clocked_some : (d : Design) (x k : ℕ) (ids : List StmtId) → drive d x ≡ Sync k ids → 0 < length ids
-clocked_some d x k ids e = subst (λ (ks : List StmtId). 0 < length ks) (sym (clocked_list d x k ids e)) (own_some d x (stmts_of k d.sync) (clocked_drives d x k ids e))
+pub sync_some : (d : Design) (x k : ℕ) (ids : List StmtId) → drive d x ≡ Sync k ids → 0 < length ids
+sync_some d x k ids e = subst (λ (ks : List StmtId). 0 < length ks) (sym (sync_list d x k ids e)) (own_some d x (stmts_of k d.sync) (list_drives d x k ids e))
 
 -- ---- the reset of a domain
 
@@ -475,13 +497,13 @@ reset_sets d names x n (Some r) e =
     EndBlock (InBlock (When (Net (net names r.0)) (InBlock (Assign (Whole (net names x)) false (reset_text d x)) EndBlock) NoElse) EndBlock)
     (λ h f. absurd (cc)) (λ h f. only_sets (bytes_eq (net names x) n) f) e
 
-combined_sets : (d : Design) (names : List Name) (x : ℕ) (ids : List StmtId) → Keeps d → IsOwnList d x ids → (n : Name) → sets_block n (comb_body d names x ids) ≡ bytes_eq (net names x) n
-combined_sets d names x ids keeps own n =
+comb_sets : (d : Design) (names : List Name) (x : ℕ) (ids : List StmtId) → Keeps d → IsOwnList d x ids → (n : Name) → sets_block n (comb_body d names x ids) ≡ bytes_eq (net names x) n
+comb_sets d names x ids keeps own n =
     or_same (bytes_eq (net names x) n) (sets_block n (block_onto (stmt_text d names true) ids EndBlock))
     (sets_only x n (bytes_eq (net names x) n) (stmt d) (stmt_text d names true) (stmt_sets d names true x keeps n) ids own.plain EndBlock (λ e. absurd (cc)))
 
-clocked_sets : (d : Design) (names : List Name) (x k : ℕ) (ids : List StmtId) → Keeps d → IsOwnList d x ids → 0 < length ids → (n : Name) → sets_block n (sync_body d names x k ids) ≡ bytes_eq (net names x) n
-clocked_sets d names x k ids keeps own some n =
+sync_sets : (d : Design) (names : List Name) (x k : ℕ) (ids : List StmtId) → Keeps d → IsOwnList d x ids → 0 < length ids → (n : Name) → sets_block n (sync_body d names x k ids) ≡ bytes_eq (net names x) n
+sync_sets d names x k ids keeps own some n =
     sets_text d names false x keeps ids own.below own.plain some (reset_block d names x (domain_reset (slice_get d.domains k))) n (reset_sets d names x n (domain_reset (slice_get d.domains k)))
 
 -- the block of a signal assigns its net alone
@@ -489,8 +511,8 @@ pub sets_alone : (d : Design) (names : List Name) (x : ℕ) → Keeps d → IsLo
 sets_alone d names x keeps low Input e = tt
 sets_alone d names x keeps low Undriven e = tt
 sets_alone d names x keeps low (CombAssign value) e = tt
-sets_alone d names x keeps low (CombBlock ids) e = combined_sets d names x ids keeps (combined_own d x ids keeps low e)
-sets_alone d names x keeps low (Sync k ids) e = clocked_sets d names x k ids keeps (clocked_own d x k ids keeps low e) (clocked_some d x k ids e)
+sets_alone d names x keeps low (CombBlock ids) e = comb_sets d names x ids keeps (comb_own d x ids keeps low e)
+sets_alone d names x keeps low (Sync k ids) e = sync_sets d names x k ids keeps (sync_own d x k ids keeps low e) (sync_some d x k ids e)
 
 -- the reset, where there is one
 reset_fits : (d : Design) (names : List Name) (m : VModule) (x : ℕ) → Keeps d → LetsRead d names m → x < length d.signals → is_register m (net names x) ≡ true → IsFit m (reset_text d x)
@@ -516,10 +538,10 @@ pub record AlwaysFits (m : VModule) (a : VAlways) : Type 0 where
   pub fits : always_fits a ≡ true
 
 -- the block of `always @(*)` for x may stand in the module
-pub combined_fits : (d : Design) (names : List Name) (m : VModule) (x : ℕ) → Keeps d → IsLowered d → LetsRead d names m → OperandsFit d names m → is_register m (net names x) ≡ true → x < length d.signals → IsFit m (reset_text d x)
+pub comb_fits : (d : Design) (names : List Name) (m : VModule) (x : ℕ) → Keeps d → IsLowered d → LetsRead d names m → OperandsFit d names m → is_register m (net names x) ≡ true → x < length d.signals → IsFit m (reset_text d x)
     → (ids : List StmtId) → drive d x ≡ CombBlock ids → AlwaysFits m (record { clock = None; body = comb_body d names x ids })
-combined_fits d names m x keeps low lets operands register lt reset ids e =
-    let own = combined_own d x ids keeps low e in
+comb_fits d names m x keeps low lets operands register lt reset ids e =
+    let own = comb_own d x ids keeps low e in
     let rest = text_fits d names m true x keeps lets operands register lt ids own.plain EndBlock (record { names = refl; widths = refl; fits = refl }) in
     let right = bits_widths d names m x keeps lets lt AllBits (reset_text d x) reset in
     record {
@@ -529,13 +551,13 @@ combined_fits d names m x keeps low lets operands register lt reset ids e =
     }
 
 -- so may the clocked block for x
-pub clocked_fits : (d : Design) (names : List Name) (m : VModule) (x : ℕ) → Keeps d → IsLowered d → LetsRead d names m → OperandsFit d names m → is_register m (net names x) ≡ true → x < length d.signals → IsFit m (reset_text d x)
+pub sync_fits : (d : Design) (names : List Name) (m : VModule) (x : ℕ) → Keeps d → IsLowered d → LetsRead d names m → OperandsFit d names m → is_register m (net names x) ≡ true → x < length d.signals → IsFit m (reset_text d x)
     → (k : ℕ) (ids : List StmtId) → drive d x ≡ Sync k ids → is_input (clock d k) m.ports ≡ true → AlwaysFits m (record { clock = Some (clock d k); body = sync_body d names x k ids })
-clocked_fits d names m x keeps low lets operands register lt reset k ids e input =
-    let own = clocked_own d x k ids keeps low e in
+sync_fits d names m x keeps low lets operands register lt reset k ids e input =
+    let own = sync_own d x k ids keeps low e in
     let end = reset_block d names x (domain_reset (slice_get d.domains k)) in
     let last = reset_fits d names m x keeps lets lt register reset (domain_reset (slice_get d.domains k)) (λ r h. signal_fits d names m keeps lets r.0 (reset_within d keeps k r h)) in
-    let target = text_target d names false x keeps ids own.below own.plain (clocked_some d x k ids e) end in
+    let target = text_target d names false x keeps ids own.below own.plain (sync_some d x k ids e) end in
     let rest = text_fits d names m false x keeps lets operands register lt ids own.plain end last in
     record {
       names = and_from (is_input (clock d k) m.ports) (block_names m (sync_body d names x k ids)) input rest.names;

@@ -26,16 +26,16 @@ use Rattle.lx_emission.proofs.Parts.{node_assignment}
 
 -- ---- an input is a port
 
-drive_given : (d : Design) (x : ℕ) (r : circuit.Role) → drive_by d x r ≡ Input → r ≡ circuit.Input
-drive_given d x circuit.Input e = refl
-drive_given d x circuit.Undriven e = absurd cc
-drive_given d x circuit.Comb e = absurd (by (single d (own d x d.comb)) e)
+drive_is_input : (d : Design) (x : ℕ) (r : circuit.Role) → drive_by d x r ≡ Input → r ≡ circuit.Input
+drive_is_input d x circuit.Input e = refl
+drive_is_input d x circuit.Undriven e = absurd cc
+drive_is_input d x circuit.Comb e = absurd (by (single d (own d x d.comb)) e)
   where
     by : (o : Option ExprId) → comb_drive (own d x d.comb) o ≡ Input → ⊥
     by None t = cc
     by (Some value) t = cc
-drive_given d x (circuit.Sync k) e = absurd cc
-drive_given d x (circuit.Read j) e = absurd cc
+drive_is_input d x (circuit.Sync k) e = absurd cc
+drive_is_input d x (circuit.Read j) e = absurd cc
 
 sync_input : (x k : ℕ) (ds : List circuit.Domain) (other : circuit.Role) → circuit.sync_role x k ds other ≡ circuit.Input → other ≡ circuit.Input
 sync_input x k [] other e = e
@@ -57,9 +57,9 @@ input_is_port d x e = idle_input (circuit_of d) x (read_other x 0 (circuit_of d)
     by true t = absurd cc
     by false t = sync_input x 0 (circuit_of d).domains idle t
 
-pub given_is_port : (d : Design) (x : ℕ) → drive d x ≡ Input → is_port d x ≡ true
+pub input_drive_is_port : (d : Design) (x : ℕ) → drive d x ≡ Input → is_port d x ≡ true
 unfolding drive
-given_is_port d x e = input_is_port d x (drive_given d x (circuit.role (circuit_of d) x) e)
+input_drive_is_port d x e = input_is_port d x (drive_is_input d x (circuit.role (circuit_of d) x) e)
 
 -- ---- the parts of the module
 
@@ -229,7 +229,7 @@ outside_signal d names keeps fit ports x lt =
     (λ y p other. outside_at_signal d names n y (λ e. other (net_once d names fit y x p lt e)))
     (λ k p u. outside_at_clock d n k ((net_no_clock d names fit x lt).each k p))
     ∙ ap (λ t. cond (is_port d x) t []) (outside_own d names x)
-    ∙ outside_if_port (is_port d x) (drive d x) (λ e. given_is_port d x e)
+    ∙ outside_if_port (is_port d x) (drive d x) (λ e. input_drive_is_port d x e)
 
 assigns_signal : (d : Design) (names : List Name) → NamesFit d names → (x : ℕ) → x < length d.signals → assign_drivers (net names x) (emitted d names).assigns ≡ assign_part d names x (drive d x)
 assigns_signal d names fit x lt =

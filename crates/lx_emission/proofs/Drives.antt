@@ -18,8 +18,7 @@ use Rattle.lx_circuit.specs.Places as Place
 use Rattle.lx_circuit.specs.Places.{Values}
 use Rattle.lx_circuit.specs.Values.{value_of, values_of, unary_value, binary_value, mux_value, cat_pattern, replicate_value, count_of}
 use Rattle.lx_circuit.specs.declared.WidthFault.TheVariants.{BadWidth}
-use Rattle.lx_vtext.specs.Tree as tree
-use Rattle.lx_vtext.specs.Tree.{Name, VExpr, VExprs, Net, Literal, PartSelect, Word, Conditional, Concatenation, Replication, ToSigned, ToUnsigned, NoMore, More}
+use Rattle.lx_vtext.specs.Tree.{Name, VExpr, VExprs, Net, Literal, PartSelect, Word, Replication, ToUnsigned, NoMore, More}
 use Rattle.lx_vmeaning.specs.Meaning as verilog
 use Rattle.lx_vmeaning.specs.Meaning.{Declared, Sizes, Valuation, Meaning, extend, meaning, meanings, own, leaf, assigned}
 use Rattle.lx_tie.specs.Stands.{Exact, Drives}
@@ -184,15 +183,7 @@ slice_exact w s n low high t z (Net m) l x h k =
     let top : low + len - 1 ≡ high - 1 = omega arith in
     subst (λ (j : ℕ). Exact w len false (pos (field_of z low len)) (verilog.select m j low)) top
     (exact_select w m n low len z (pattern_of w n t z (s m).bits (s m).signed (λ u. u.nets m) x) (omega arith) (omega arith)))
-slice_exact w s n low high t z (PartSelect m hi lo) l x h k = absurd (cc)
-slice_exact w s n low high t z (Word m i) l x h k = absurd (cc)
-slice_exact w s n low high t z (tree.Unary o a) l x h k = absurd (cc)
-slice_exact w s n low high t z (tree.Binary a o b) l x h k = absurd (cc)
-slice_exact w s n low high t z (Conditional c a b) l x h k = absurd (cc)
-slice_exact w s n low high t z (Concatenation a more) l x h k = absurd (cc)
-slice_exact w s n low high t z (Replication c a) l x h k = absurd (cc)
-slice_exact w s n low high t z (ToSigned a) l x h k = absurd (cc)
-slice_exact w s n low high t z (ToUnsigned a) l x h k = absurd (cc)
+slice_exact w s n low high t z e l x h k = absurd (cc)
 
 -- ---- nodes
 

@@ -141,15 +141,7 @@ slice_fits m (tree.Net n) bits low high f w p q r = by_cover (nat_eq low 0 && na
           (and_from (nat_le low (high - 1)) (nat_lt (high - 1) (sizes m n).bits) (le-leb low (high - 1) (omega arith)) (lt-ltb (high - 1) (sizes m n).bits (omega (arith, w))));
       widths = width_fits (high - 1 - low + 1) (omega arith) (omega arith);
     }
-slice_fits m (tree.PartSelect k hi lo) bits low high f w p q r = record { names = f.names; widths = f.widths }
-slice_fits m (tree.Word k index) bits low high f w p q r = record { names = f.names; widths = f.widths }
-slice_fits m (tree.Unary op of) bits low high f w p q r = record { names = f.names; widths = f.widths }
-slice_fits m (tree.Binary a op b) bits low high f w p q r = record { names = f.names; widths = f.widths }
-slice_fits m (tree.Conditional c a b) bits low high f w p q r = record { names = f.names; widths = f.widths }
-slice_fits m (tree.Concatenation first more) bits low high f w p q r = record { names = f.names; widths = f.widths }
-slice_fits m (tree.Replication count of) bits low high f w p q r = record { names = f.names; widths = f.widths }
-slice_fits m (tree.ToSigned of) bits low high f w p q r = record { names = f.names; widths = f.widths }
-slice_fits m (tree.ToUnsigned of) bits low high f w p q r = record { names = f.names; widths = f.widths }
+slice_fits m e bits low high f w p q r = record { names = f.names; widths = f.widths }
 
 own_shape : (d : Design) (k : ℕ) → node_shape d k ≡ shape_of (shapes d) (term d k)
 unfolding node_shape

@@ -196,16 +196,16 @@ made_within d x lt = omega (arith, length-map d.signals made_of)
 abbrev Holds : Design → List Name → Valuation → (Name → ℕ) → Valuation → ℕ → Drive → Type 0
 Holds d names state inputs w x g = w.nets (net names x) ≡ by_driver (emitted d names) state inputs w (net names x) (driver_by d names x g)
 
-held_holds : (d : Design) (names : List Name) (state inputs v : Values) (v_state : Valuation) (v_inputs : Name → ℕ) (w : Valuation) (x : ℕ) → CanBeEmitted d names → x < length d.signals → Moment d names v w → IsSettled (circuit_of d) state inputs v
+undriven_holds : (d : Design) (names : List Name) (state inputs v : Values) (v_state : Valuation) (v_inputs : Name → ℕ) (w : Valuation) (x : ℕ) → CanBeEmitted d names → x < length d.signals → Moment d names v w → IsSettled (circuit_of d) state inputs v
     → role (circuit_of d) x ≡ circuit.Undriven → Holds d names v_state v_inputs w x Undriven
-held_holds d names state inputs v v_state v_inputs w x can lt now settled e =
+undriven_holds d names state inputs v v_state v_inputs w x can lt now settled e =
     now.has.signals x lt
     ∙ (ap (λ z. modulo z (2 ^ (shapes d x).bits)) (settled.each (At x) ∙ ap (by_role (circuit_of d) state inputs v x) e)
     ∙ sym (reset_assigned d names x w can lt))
 
-equal_holds : (d : Design) (names : List Name) (state inputs v : Values) (v_state : Valuation) (v_inputs : Name → ℕ) (w : Valuation) (x : ℕ) → CanBeEmitted d names → x < length d.signals → Moment d names v w → IsSettled (circuit_of d) state inputs v
+comb_assign_holds : (d : Design) (names : List Name) (state inputs v : Values) (v_state : Valuation) (v_inputs : Name → ℕ) (w : Valuation) (x : ℕ) → CanBeEmitted d names → x < length d.signals → Moment d names v w → IsSettled (circuit_of d) state inputs v
     → role (circuit_of d) x ≡ circuit.Comb → (value : ExprId) → single d (own d x d.comb) ≡ Some value → Holds d names v_state v_inputs w x (CombAssign value)
-equal_holds d names state inputs v v_state v_inputs w x can lt now settled e value is =
+comb_assign_holds d names state inputs v v_state v_inputs w x can lt now settled e value is =
     let n = (shapes d x).bits in
     let keeps = can.keeps in
     let one = single_value d names v x keeps lt (own d x d.comb) (own_below d x (length d.stmts) d.comb keeps.comb.there) (own_for d x d.comb can.lowered.comb) value is in
@@ -214,9 +214,9 @@ equal_holds d names state inputs v v_state v_inputs w x can lt now settled e val
     ∙ (one.1 (modulo (reset_of_signal d x) (2 ^ n)) (modulo-below (reset_of_signal d x) (2 ^ n) (pow_pos n))
     ∙ sym (ap (λ k. assigned (sizes (emitted d names)) w k (operand d names value.place)) (net_bits d names x can lt) ∙ now.stand.assigned value.place one.0 n)))
 
-combined_holds : (d : Design) (names : List Name) (state inputs v : Values) (v_state : Valuation) (v_inputs : Name → ℕ) (w : Valuation) (x : ℕ) → CanBeEmitted d names → x < length d.signals → Moment d names v w → IsSettled (circuit_of d) state inputs v
+comb_block_holds : (d : Design) (names : List Name) (state inputs v : Values) (v_state : Valuation) (v_inputs : Name → ℕ) (w : Valuation) (x : ℕ) → CanBeEmitted d names → x < length d.signals → Moment d names v w → IsSettled (circuit_of d) state inputs v
     → role (circuit_of d) x ≡ circuit.Comb → Holds d names v_state v_inputs w x (CombBlock (own d x d.comb))
-combined_holds d names state inputs v v_state v_inputs w x can lt now settled e =
+comb_block_holds d names state inputs v v_state v_inputs w x can lt now settled e =
     let n = (shapes d x).bits in
     let keeps = can.keeps in
     let s = sizes (emitted d names) in
@@ -227,32 +227,32 @@ combined_holds d names state inputs v v_state v_inputs w x can lt now settled e 
     ∙ (comb_pattern d names state inputs v x can settled e
     ∙ sym (ap (λ k. run_block s w (block_onto (stmt_text d names true) ids EndBlock) k) (reset_assigned d names x w can lt) ∙ runs))
 
-given_holds : (d : Design) (names : List Name) (state inputs v : Values) (v_state : Valuation) (v_inputs : Name → ℕ) (w : Valuation) (x : ℕ) → x < length d.signals → Moment d names v w → IsSettled (circuit_of d) state inputs v
+input_holds : (d : Design) (names : List Name) (state inputs v : Values) (v_state : Valuation) (v_inputs : Name → ℕ) (w : Valuation) (x : ℕ) → x < length d.signals → Moment d names v w → IsSettled (circuit_of d) state inputs v
     → SameInputs (circuit_of d) (naming d names) inputs v_inputs → role (circuit_of d) x ≡ circuit.Input → Holds d names v_state v_inputs w x Input
-given_holds d names state inputs v v_state v_inputs w x lt now settled same e =
+input_holds d names state inputs v v_state v_inputs w x lt now settled same e =
     now.has.signals x lt
     ∙ (ap (λ z. modulo z (2 ^ (shapes d x).bits)) (settled.each (At x) ∙ ap (by_role (circuit_of d) state inputs v x) e)
     ∙ sym (same.each x e))
 
-clocked_holds : (d : Design) (names : List Name) (state inputs v : Values) (v_state : Valuation) (v_inputs : Name → ℕ) (w : Valuation) (x k : ℕ) (ids : List StmtId) → x < length d.signals → Moment d names v w → IsSettled (circuit_of d) state inputs v
+sync_holds : (d : Design) (names : List Name) (state inputs v : Values) (v_state : Valuation) (v_inputs : Name → ℕ) (w : Valuation) (x k : ℕ) (ids : List StmtId) → x < length d.signals → Moment d names v w → IsSettled (circuit_of d) state inputs v
     → SameState (circuit_of d) (naming d names) state v_state → role (circuit_of d) x ≡ circuit.Sync k → Holds d names v_state v_inputs w x (Sync k ids)
-clocked_holds d names state inputs v v_state v_inputs w x k ids lt now settled same e =
+sync_holds d names state inputs v v_state v_inputs w x k ids lt now settled same e =
     now.has.signals x lt
     ∙ (ap (λ z. modulo z (2 ^ (shapes d x).bits)) (settled.each (At x) ∙ ap (by_role (circuit_of d) state inputs v x) e)
     ∙ sym (same.signals x k e))
 
 comb_holds : (d : Design) (names : List Name) (state inputs v : Values) (v_state : Valuation) (v_inputs : Name → ℕ) (w : Valuation) (x : ℕ) → CanBeEmitted d names → x < length d.signals → Moment d names v w → IsSettled (circuit_of d) state inputs v
     → role (circuit_of d) x ≡ circuit.Comb → (o : Option ExprId) → single d (own d x d.comb) ≡ o → Holds d names v_state v_inputs w x (comb_drive (own d x d.comb) o)
-comb_holds d names state inputs v v_state v_inputs w x can lt now settled e None is = combined_holds d names state inputs v v_state v_inputs w x can lt now settled e
-comb_holds d names state inputs v v_state v_inputs w x can lt now settled e (Some value) is = equal_holds d names state inputs v v_state v_inputs w x can lt now settled e value is
+comb_holds d names state inputs v v_state v_inputs w x can lt now settled e None is = comb_block_holds d names state inputs v v_state v_inputs w x can lt now settled e
+comb_holds d names state inputs v v_state v_inputs w x can lt now settled e (Some value) is = comb_assign_holds d names state inputs v v_state v_inputs w x can lt now settled e value is
 
 role_holds : (d : Design) (names : List Name) (state inputs v : Values) (v_state : Valuation) (v_inputs : Name → ℕ) (w : Valuation) (x : ℕ) → CanBeEmitted d names → x < length d.signals → Moment d names v w → IsSettled (circuit_of d) state inputs v
     → SameState (circuit_of d) (naming d names) state v_state → SameInputs (circuit_of d) (naming d names) inputs v_inputs → (r : Role) → role (circuit_of d) x ≡ r → Holds d names v_state v_inputs w x (drive_by d x r)
-role_holds d names state inputs v v_state v_inputs w x can lt now settled same_s same_i circuit.Input e = given_holds d names state inputs v v_state v_inputs w x lt now settled same_i e
+role_holds d names state inputs v v_state v_inputs w x can lt now settled same_s same_i circuit.Input e = input_holds d names state inputs v v_state v_inputs w x lt now settled same_i e
 role_holds d names state inputs v v_state v_inputs w x can lt now settled same_s same_i circuit.Comb e = comb_holds d names state inputs v v_state v_inputs w x can lt now settled e (single d (own d x d.comb)) refl
-role_holds d names state inputs v v_state v_inputs w x can lt now settled same_s same_i (circuit.Sync k) e = clocked_holds d names state inputs v v_state v_inputs w x k (own d x (stmts_of k d.sync)) lt now settled same_s e
+role_holds d names state inputs v v_state v_inputs w x can lt now settled same_s same_i (circuit.Sync k) e = sync_holds d names state inputs v v_state v_inputs w x k (own d x (stmts_of k d.sync)) lt now settled same_s e
 role_holds d names state inputs v v_state v_inputs w x can lt now settled same_s same_i (circuit.Read j) e = absurd (no_reads (circuit_of d) can.memories.show_nothing x j e)
-role_holds d names state inputs v v_state v_inputs w x can lt now settled same_s same_i circuit.Undriven e = held_holds d names state inputs v v_state v_inputs w x can lt now settled e
+role_holds d names state inputs v v_state v_inputs w x can lt now settled same_s same_i circuit.Undriven e = undriven_holds d names state inputs v v_state v_inputs w x can lt now settled e
 
 signal_holds : (d : Design) (names : List Name) (state inputs v : Values) (v_state : Valuation) (v_inputs : Name → ℕ) (w : Valuation) (x : ℕ) → CanBeEmitted d names → x < length d.signals → Moment d names v w → IsSettled (circuit_of d) state inputs v
     → SameState (circuit_of d) (naming d names) state v_state → SameInputs (circuit_of d) (naming d names) inputs v_inputs → Holds d names v_state v_inputs w x (drive d x)

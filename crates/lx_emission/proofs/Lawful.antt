@@ -179,15 +179,7 @@ slice_lawful (tree.Net n) bits low high bare p q = by_cover (nat_eq low 0 && nat
     by_cover : (b : Bool) → IsExpr 32 (if b then tree.ToUnsigned (tree.Net n) else tree.PartSelect n (high - 1) low)
     by_cover true = bare 31
     by_cover false = bare 31
-slice_lawful (tree.PartSelect k hi lo) bits low high bare p q = bare 31
-slice_lawful (tree.Word k index) bits low high bare p q = bare 31
-slice_lawful (tree.Unary op of) bits low high bare p q = bare 31
-slice_lawful (tree.Binary a op b) bits low high bare p q = bare 31
-slice_lawful (tree.Conditional c a b) bits low high bare p q = bare 31
-slice_lawful (tree.Concatenation first more) bits low high bare p q = bare 31
-slice_lawful (tree.Replication count of) bits low high bare p q = bare 31
-slice_lawful (tree.ToSigned of) bits low high bare p q = bare 31
-slice_lawful (tree.ToUnsigned of) bits low high bare p q = bare 31
+slice_lawful e bits low high bare p q = bare 31
 
 parts_lawful : (b : ℕ) (o : ℕ → VExpr) (parts : List ExprId) (done : VExprs) → EachPlace (λ k. IsBare (o k)) parts → AreExprs b done → AreExprs b (parts_onto o parts done)
 parts_lawful b o [] done each h = h

@@ -27,7 +27,6 @@ pub mod Steps
 pub mod Structure
 pub mod Tests
 pub mod Whole
-pub mod Within
 pub mod WriteBlocks
 pub mod Writers
 pub mod Writes

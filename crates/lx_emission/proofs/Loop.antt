@@ -1,9 +1,9 @@
 -- No net of the module depends on itself: ranks of signals by the design's order, and of nodes between them.
-use Rattle.std.proofs.Common.{◌≡◌, ℕ, suc, ◌+◌, ◌*◌, ◌≤◌, ◌<◌, Bool, true, false, cond, ◌||◌, max, List, [], ◌∷◌, length, Option, Some, None, refl, sym, ap, subst, ◌∙◌, arith, inl, inr, ◌⊎◌, eq-eqb}
+use Rattle.std.proofs.Common.{◌≡◌, ℕ, zero, suc, ◌+◌, ◌*◌, ◌≤◌, ◌<◌, Bool, true, false, cond, max, List, [], ◌∷◌, length, Option, Some, None, refl, sym, ap, subst, ◌∙◌, arith, inl, inr}
 use Rattle.std.proofs.Math.Nat.{mul-le-mul_right}
-use Rattle.std.proofs.lemmas.Bool.{eqb-true, and_parts}
-use Rattle.std.specs.Prelude.{slice_get}
-use Rattle.lx_circuit.specs.Terms.{Term, Terms, Constant, Signal, Unary, Binary, Mux, Cat, Replicate, Slice, Pick, Fetch, NoTerm, MoreTerms}
+use Rattle.std.proofs.lemmas.Bool.{cases_eq, or_left, and_parts}
+use Rattle.std.specs.Prelude.{slice_get, if◌then◌else◌}
+use Rattle.lx_circuit.specs.Terms.{Term}
 use Rattle.lx_circuit.specs.Statements as tree
 use Rattle.lx_circuit.specs.Statements.{drives_block, is_target}
 use Rattle.lx_circuit.specs.Circuit as roles
@@ -35,7 +35,7 @@ use Rattle.lx_emission.proofs.Classes.{Class, OfSignal, OfNode, OfClock, OfMemor
 use Rattle.lx_emission.proofs.Reading.{operand_reads, node_text_reads}
 use Rattle.lx_emission.proofs.BlockReads.{text_reads, own_reads}
 use Rattle.lx_emission.proofs.Pieces.{own_for}
-use Rattle.lx_emission.proofs.Blocks.{combined_own, combined_list}
+use Rattle.lx_emission.proofs.Blocks.{comb_own, comb_list}
 
 -- what drives each name of a module
 pub record DriversAre (d : Design) (names : List Name) (m : VModule) : Type 0 where
@@ -55,101 +55,42 @@ memory_reads d names j n = by (writing_domain j (circuit_of d).ports)
 
 -- ---- the greatest rank of the signals in an expression
 
-abbrev mutual
-  pub top : (ℕ → ℕ) → Term → ℕ
-  top r (Constant value a) = 0
-  top r (Signal x) = suc (r x)
-  top r (Unary o a) = top r a
-  top r (Binary o a b) = max (top r a) (top r b)
-  top r (Mux c a b) = max (top r c) (max (top r a) (top r b))
-  top r (Cat parts) = tops r parts
-  top r (Replicate a count) = top r a
-  top r (Slice a low high) = top r a
-  top r (Pick items index) = max (tops r items) (top r index)
-  top r (Fetch m width at) = top r at
-
-  pub tops : (ℕ → ℕ) → Terms → ℕ
-  tops r NoTerm = 0
-  tops r (MoreTerms t ts) = max (top r t) (tops r ts)
-
-or_left : (a b : Bool) → a ≡ true → (a || b) ≡ true
-or_left a b e = ap (λ (x : Bool). x || b) e
-
-or_right : (a b : Bool) → b ≡ true → (a || b) ≡ true
-or_right true b e = refl
-or_right false b e = e
-
-or_cases : (a b : Bool) → (a || b) ≡ true → (a ≡ true) ⊎ (b ≡ true)
-or_cases true b e = inl refl
-or_cases false b e = inr e
+-- one more than the greatest rank of the first n signals that it names
+top : (ℕ → ℕ) → Term → ℕ → ℕ
+top r t zero = 0
+top r t (suc n) = max (if circuit.names (At n) t then suc (r n) else 0) (top r t n)
 
 -- a signal that an expression names has a rank below
-mutual
-  below_top : (r : ℕ → ℕ) (t : Term) (y : ℕ) → circuit.names (At y) t ≡ true → suc (r y) ≤ top r t
-  below_top r (Constant value a) y e = absurd cc
-  below_top r (Signal x) y e = let p : x ≡ y = eqb-true x y e in subst (λ z. suc (r z) ≤ suc (r x)) p (omega arith)
-  below_top r (Unary o a) y e = below_top r a y e
-  below_top r (Binary o a b) y e = elim (or_cases (circuit.names (At y) a) (circuit.names (At y) b) e) [
-    | inl p ↦ let q = below_top r a y p in omega arith
-    | inr p ↦ let q = below_top r b y p in omega arith
-  ]
-  below_top r (Mux c a b) y e = elim (or_cases (circuit.names (At y) c) (circuit.names (At y) a || circuit.names (At y) b) e) [
-    | inl p ↦ let q = below_top r c y p in omega arith
-    | inr p ↦ elim (or_cases (circuit.names (At y) a) (circuit.names (At y) b) p) [
-      | inl s ↦ let q = below_top r a y s in omega arith
-      | inr s ↦ let q = below_top r b y s in omega arith
-    ]
-  ]
-  below_top r (Cat parts) y e = below_tops r parts y e
-  below_top r (Replicate a count) y e = below_top r a y e
-  below_top r (Slice a low high) y e = below_top r a y e
-  below_top r (Pick items index) y e = elim (or_cases (circuit.some_names (At y) items) (circuit.names (At y) index) e) [
-    | inl p ↦ let q = below_tops r items y p in omega arith
-    | inr p ↦ let q = below_top r index y p in omega arith
-  ]
-  below_top r (Fetch m width at) y e = below_top r at y e
-
-  below_tops : (r : ℕ → ℕ) (ts : Terms) (y : ℕ) → circuit.some_names (At y) ts ≡ true → suc (r y) ≤ tops r ts
-  below_tops r NoTerm y e = absurd cc
-  below_tops r (MoreTerms t ts) y e = elim (or_cases (circuit.names (At y) t) (circuit.some_names (At y) ts) e) [
-    | inl p ↦ let q = below_top r t y p in omega arith
-    | inr p ↦ let q = below_tops r ts y p in omega arith
-  ]
+below_top : (r : ℕ → ℕ) (t : Term) (n y : ℕ) → y < n → circuit.names (At y) t ≡ true → suc (r y) ≤ top r t n
+unfolding top
+below_top r t zero y lt e = absurd (omega arith)
+below_top r t (suc n) y lt e = elim (cases_eq n y) [
+  | inl same ↦
+      let here : (if circuit.names (At n) t then suc (r n) else 0) ≡ suc (r y) = ap (λ (i : ℕ). if circuit.names (At i) t then suc (r i) else 0) same ∙ ap (λ b. if b then suc (r y) else 0) e in
+      omega (arith, here)
+  | inr other ↦ let rest = below_top r t n y (omega (arith, other)) e in omega arith
+]
 
 -- and no signal that it names has a higher one
-mutual
-  top_below : (r : ℕ → ℕ) (t : Term) (b : ℕ) → ((y : ℕ) → circuit.names (At y) t ≡ true → suc (r y) ≤ b) → top r t ≤ b
-  top_below r (Constant value a) b h = omega arith
-  top_below r (Signal x) b h = h x (eq-eqb x x refl)
-  top_below r (Unary o a) b h = top_below r a b h
-  top_below r (Binary o p q) b h =
-      let i = top_below r p b (λ y e. h y (or_left (circuit.names (At y) p) (circuit.names (At y) q) e)) in
-      let j = top_below r q b (λ y e. h y (or_right (circuit.names (At y) p) (circuit.names (At y) q) e)) in
-      omega arith
-  top_below r (Mux c p q) b h =
-      let k = top_below r c b (λ y e. h y (or_left (circuit.names (At y) c) (circuit.names (At y) p || circuit.names (At y) q) e)) in
-      let i = top_below r p b (λ y e. h y (or_right (circuit.names (At y) c) (circuit.names (At y) p || circuit.names (At y) q) (or_left (circuit.names (At y) p) (circuit.names (At y) q) e))) in
-      let j = top_below r q b (λ y e. h y (or_right (circuit.names (At y) c) (circuit.names (At y) p || circuit.names (At y) q) (or_right (circuit.names (At y) p) (circuit.names (At y) q) e))) in
-      omega arith
-  top_below r (Cat parts) b h = tops_below r parts b h
-  top_below r (Replicate a count) b h = top_below r a b h
-  top_below r (Slice a low high) b h = top_below r a b h
-  top_below r (Pick items index) b h =
-      let i = tops_below r items b (λ y e. h y (or_left (circuit.some_names (At y) items) (circuit.names (At y) index) e)) in
-      let j = top_below r index b (λ y e. h y (or_right (circuit.some_names (At y) items) (circuit.names (At y) index) e)) in
-      omega arith
-  top_below r (Fetch m width at) b h = top_below r at b h
-
-  tops_below : (r : ℕ → ℕ) (ts : Terms) (b : ℕ) → ((y : ℕ) → circuit.some_names (At y) ts ≡ true → suc (r y) ≤ b) → tops r ts ≤ b
-  tops_below r NoTerm b h = omega arith
-  tops_below r (MoreTerms t ts) b h =
-      let i = top_below r t b (λ y e. h y (or_left (circuit.names (At y) t) (circuit.some_names (At y) ts) e)) in
-      let j = tops_below r ts b (λ y e. h y (or_right (circuit.names (At y) t) (circuit.some_names (At y) ts) e)) in
-      omega arith
+top_below : (r : ℕ → ℕ) (t : Term) (n b : ℕ) → ((y : ℕ) → circuit.names (At y) t ≡ true → suc (r y) ≤ b) → top r t n ≤ b
+unfolding top
+top_below r t zero b h = omega arith
+top_below r t (suc n) b h = both (circuit.names (At n) t) (h n) (top_below r t n b h)
+  where
+    both : (c : Bool) → (c ≡ true → suc (r n) ≤ b) → top r t n ≤ b → max (if c then suc (r n) else 0) (top r t n) ≤ b
+    both true f g = let p = f refl in omega arith
+    both false f g = omega arith
 
 -- where one expression names all that another does, its greatest rank is no less
-top_grows : (r : ℕ → ℕ) (t u : Term) → ((y : ℕ) → circuit.names (At y) t ≡ true → circuit.names (At y) u ≡ true) → top r t ≤ top r u
-top_grows r t u h = top_below r t (top r u) (λ y e. below_top r u y (h y e))
+top_grows : (r : ℕ → ℕ) (t u : Term) (n : ℕ) → ((y : ℕ) → circuit.names (At y) t ≡ true → circuit.names (At y) u ≡ true) → top r t n ≤ top r u n
+unfolding top
+top_grows r t u zero h = omega arith
+top_grows r t u (suc n) h = both (circuit.names (At n) t) (circuit.names (At n) u) (h n) (top_grows r t u n h)
+  where
+    both : (c e : Bool) → (c ≡ true → e ≡ true) → top r t n ≤ top r u n → max (if c then suc (r n) else 0) (top r t n) ≤ max (if e then suc (r n) else 0) (top r u n)
+    both true true f g = omega arith
+    both true false f g = absurd (let p = f refl in cc)
+    both false e f g = omega arith
 
 -- ---- the rank of a name
 
@@ -161,7 +102,7 @@ abbrev rank_signal : Design → (ℕ → ℕ) → ℕ → ℕ
 rank_signal d r x = suc (r x) * room d
 
 abbrev rank_node : Design → (ℕ → ℕ) → ℕ → ℕ
-rank_node d r k = top r (term d k) * room d + suc k
+rank_node d r k = top r (term d k) (length d.signals) * room d + suc k
 
 rank_by : (d : Design) (names : List Name) (r : ℕ → ℕ) (n : Name) → Class d names n → ℕ
 rank_by d names r n (OfSignal x lt e) = rank_signal d r x
@@ -198,16 +139,16 @@ rank_own d names keeps fit r k is = by_class (name_classes d names (node_net d.e
 -- ---- what is read ranks lower
 
 -- what an expression may read ranks below any bound that lies above its signals and nodes
-read_below : (d : Design) (names : List Name) → Keeps d → NamesFit d names → (r : ℕ → ℕ) (bound : ℕ) (t : Term) (n : Name) (b : ℕ) → bound ≤ length d.exprs → top r t * room d + bound < b
+read_below : (d : Design) (names : List Name) → Keeps d → NamesFit d names → (r : ℕ → ℕ) (bound : ℕ) (t : Term) (n : Name) (b : ℕ) → bound ≤ length d.exprs → top r t (length d.signals) * room d + bound < b
     → MayRead d names bound t n → rank_of d names r n < b
 read_below d names keeps fit r bound t n b most h (inl s) =
     let e = ap (rank_of d names r) s.same ∙ rank_net d names fit r s.signal s.within in
-    let le = below_top r t s.signal s.named in
+    let le = below_top r t (length d.signals) s.signal s.within s.named in
     let room_le = mul-le-mul_right (room d) le in
     omega (arith, e)
 read_below d names keeps fit r bound t n b most h (inr s) =
     let e = ap (rank_of d names r) s.same ∙ rank_own d names keeps fit r s.place s.is_node in
-    let le = top_grows r (term d s.place) t s.signals in
+    let le = top_grows r (term d s.place) t (length d.signals) s.signals in
     let room_le = mul-le-mul_right (room d) le in
     let below = s.below in
     omega (arith, e)
@@ -216,7 +157,7 @@ read_below d names keeps fit r bound t n b most h (inr s) =
 operand_below : (d : Design) (names : List Name) → Keeps d → NamesFit d names → (r : ℕ → ℕ) (x k : ℕ) (n : Name) → x < length d.signals → k < length d.exprs
     → ((y : ℕ) → circuit.names (At y) (term d k) ≡ true → r y < r x) → reads n (operand d names k) ≡ true → rank_of d names r n < rank_signal d r x
 operand_below d names keeps fit r x k n lt within after e =
-    let top_le : top r (term d k) ≤ r x = top_below r (term d k) (r x) (λ y p. let q = after y p in omega arith) in
+    let top_le : top r (term d k) (length d.signals) ≤ r x = top_below r (term d k) (length d.signals) (r x) (λ y p. let q = after y p in omega arith) in
     let room_le = mul-le-mul_right (room d) top_le in
     let grown : rank_signal d r x ≡ r x * room d + room d = omega arith in
     read_below d names keeps fit r (suc k) (term d k) n (rank_signal d r x) (omega arith) (omega arith)
@@ -229,9 +170,9 @@ pub record IsRightSide (d : Design) (x : ℕ) (ids : List StmtId) (value : ExprI
   pub within : value.place < length d.exprs
   pub signals : (y : ℕ) → circuit.names (At y) (term d value.place) ≡ true → reads_block x (At y) (block d ids) ≡ true
 
-equal_list : (d : Design) (x : ℕ) (value : ExprId) → drive d x ≡ CombAssign value → single d (own d x d.comb) ≡ Some value
+assign_list : (d : Design) (x : ℕ) (value : ExprId) → drive d x ≡ CombAssign value → single d (own d x d.comb) ≡ Some value
 unfolding drive
-equal_list d x value e = by_role (role (circuit_of d) x) e
+assign_list d x value e = by_role (role (circuit_of d) x) e
   where
     by_single : (o : Option ExprId) → comb_drive (own d x d.comb) o ≡ CombAssign value → o ≡ Some value
     by_single None h = absurd cc
@@ -276,8 +217,8 @@ side_list d x value keeps [] plain h = absurd cc
 side_list d x value keeps (i ∷ []) plain h = side_at d x value i keeps (and_parts (is_for x (stmt d i.place)) true plain).0 (slice_get d.stmts i.place) refl h
 side_list d x value keeps (i ∷ (j ∷ is)) plain h = absurd cc
 
-pub equal_side : (d : Design) (x : ℕ) (value : ExprId) → Keeps d → IsLowered d → drive d x ≡ CombAssign value → IsRightSide d x (own d x d.comb) value
-equal_side d x value keeps low e = side_list d x value keeps (own d x d.comb) (own_for d x d.comb low.comb) (equal_list d x value e)
+pub assign_side : (d : Design) (x : ℕ) (value : ExprId) → Keeps d → IsLowered d → drive d x ≡ CombAssign value → IsRightSide d x (own d x d.comb) value
+assign_side d x value keeps low e = side_list d x value keeps (own d x d.comb) (own_for d x d.comb low.comb) (assign_list d x value e)
 
 -- ---- no net depends on itself
 
@@ -295,13 +236,13 @@ signal_falls : (d : Design) (names : List Name) → Keeps d → IsLowered d → 
 signal_falls d names keeps low fit o x lt n Input e h = absurd cc
 signal_falls d names keeps low fit o x lt n Undriven e h = absurd cc
 signal_falls d names keeps low fit o x lt n (CombAssign value) e h =
-    let side = equal_side d x value keeps low e in
+    let side = assign_side d x value keeps low e in
     operand_below d names keeps fit (signal_rank d o) x value.place n lt side.within (λ y p. after d o x y (side.signals y p)) h
 signal_falls d names keeps low fit o x lt n (CombBlock ids) e h =
-    let plain = combined_own d x ids keeps low e in
+    let plain = comb_own d x ids keeps low e in
     elim (text_reads d names true x keeps ids plain.below plain.plain EndBlock n h) [
       | inl p ↦ absurd cc
-      | inr p ↦ operand_below d names keeps fit (signal_rank d o) x p.place n lt p.within (λ y q. after d o x y (subst (λ (ks : List StmtId). reads_block x (At y) (block d ks) ≡ true) (combined_list d x ids e) (p.signals y q))) p.read
+      | inr p ↦ operand_below d names keeps fit (signal_rank d o) x p.place n lt p.within (λ y q. after d o x y (subst (λ (ks : List StmtId). reads_block x (At y) (block d ks) ≡ true) (comb_list d x ids e) (p.signals y q))) p.read
     ]
 signal_falls d names keeps low fit o x lt n (Sync k ids) e h = absurd cc
 

@@ -220,20 +220,20 @@ role_within d x n e = by (drives_block x (circuit_of d).comb) e
         let within = sync_within x 0 n (domains_from d 0 d.domains) idle (λ e. idle_not_sync (circuit_of d) x n (read_other x 0 (circuit_of d).ports (circuit.idle_role (circuit_of d) x) (circuit.Sync n) refl e)) t in
         omega (arith, within, domains-length d 0 d.domains)
 
-drive_clocked : (d : Design) (x n : ℕ) (body : List StmtId) (r : circuit.Role) → drive_by d x r ≡ Sync n body → r ≡ circuit.Sync n
-drive_clocked d x n body circuit.Input e = absurd cc
-drive_clocked d x n body circuit.Undriven e = absurd cc
-drive_clocked d x n body circuit.Comb e = absurd (by (single d (own d x d.comb)) e)
+drive_is_sync : (d : Design) (x n : ℕ) (body : List StmtId) (r : circuit.Role) → drive_by d x r ≡ Sync n body → r ≡ circuit.Sync n
+drive_is_sync d x n body circuit.Input e = absurd cc
+drive_is_sync d x n body circuit.Undriven e = absurd cc
+drive_is_sync d x n body circuit.Comb e = absurd (by (single d (own d x d.comb)) e)
   where
     by : (o : Option ExprId) → comb_drive (own d x d.comb) o ≡ Sync n body → ⊥
     by None t = cc
     by (Some value) t = cc
-drive_clocked d x n body (circuit.Read j) e = absurd cc
-drive_clocked d x n body (circuit.Sync k) e = let same : k ≡ n = cc in ap circuit.Sync same
+drive_is_sync d x n body (circuit.Read j) e = absurd cc
+drive_is_sync d x n body (circuit.Sync k) e = let same : k ≡ n = cc in ap circuit.Sync same
 
-pub clocked_within : (d : Design) (x n : ℕ) (body : List StmtId) → drive d x ≡ Sync n body → n < length d.domains
+pub drive_within : (d : Design) (x n : ℕ) (body : List StmtId) → drive d x ≡ Sync n body → n < length d.domains
 unfolding drive
-clocked_within d x n body e = role_within d x n (drive_clocked d x n body (circuit.role (circuit_of d) x) e)
+drive_within d x n body e = role_within d x n (drive_is_sync d x n body (circuit.role (circuit_of d) x) e)
 
 domain_within : (n : ℕ) (b : Bool) (o : Option ℕ) (x : ℕ) → HasDomain n b o → o ≡ Some x → x < n
 domain_within n true None x h e = absurd cc
@@ -260,7 +260,7 @@ not_clock d names keeps n h =
     ap (λ b. b && is_input n (emitted d names).ports) (none_from_each (λ (a : VAlways). names_clock n a.clock) (emitted d names).always
     (blocks_hold (λ a. names_clock n a.clock ≡ false) d names (record {
       comb = λ x body lt e. refl;
-      sync = λ x k body lt e. name_other (clock d k) n (h.each k (clocked_within d x k body e));
+      sync = λ x k body lt e. name_other (clock d k) n (h.each k (drive_within d x k body e));
       memories = λ k x lt e. name_other (clock d x) n (h.each x (writing_within d keeps k x e));
     })))
 

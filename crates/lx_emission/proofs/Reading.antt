@@ -132,15 +132,7 @@ slice_text_reads n (tree.Net k) bits low high h = by_cover (nat_eq low 0 && nat_
     by_cover true p = p
     by_cover false p = p
 slice_text_reads n (tree.Literal bits signed value) b low high h = h
-slice_text_reads n (tree.PartSelect k hi lo) bits low high h = h
-slice_text_reads n (tree.Word k index) bits low high h = h
-slice_text_reads n (tree.Unary op of) bits low high h = h
-slice_text_reads n (tree.Binary a op b) bits low high h = h
-slice_text_reads n (tree.Conditional c a b) bits low high h = h
-slice_text_reads n (tree.Concatenation first more) bits low high h = h
-slice_text_reads n (tree.Replication count of) bits low high h = h
-slice_text_reads n (tree.ToSigned of) bits low high h = h
-slice_text_reads n (tree.ToUnsigned of) bits low high h = h
+slice_text_reads n e bits low high h = h
 
 -- parts that are there make a concatenation
 pub record IsCat (o : ℕ → VExpr) (parts : List ExprId) : Type 0 where

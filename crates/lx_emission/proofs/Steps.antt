@@ -33,7 +33,7 @@ use Rattle.lx_emission.specs.Emits.{CanBeEmitted}
 use Rattle.lx_emission.proofs.Setting.{HasPatterns, SignalsFit, driver_by, clocked_drivers, memory_drivers}
 use Rattle.lx_emission.proofs.Structure.{net_of_signal}
 use Rattle.lx_emission.proofs.Classes.{memory_of_name}
-use Rattle.lx_emission.proofs.Parts.{declares, clocked_within, writing_within}
+use Rattle.lx_emission.proofs.Parts.{declares, drive_within, writing_within}
 use Rattle.lx_emission.proofs.Inits.{word_starts}
 use Rattle.lx_emission.proofs.Writers.{sized}
 use Rattle.lx_emission.proofs.MemoryRuns.{IsIn, memory_there, body_runs, written_idle, one_domain, rise_together}
@@ -48,8 +48,7 @@ use Rattle.lx_emission.proofs.Fitting.{signal_bits}
 use Rattle.lx_emission.proofs.Operands.{literal_exact, net_exact, cut_exact, holds_exact}
 use Rattle.lx_emission.proofs.Pieces.{own_for, own_below}
 use Rattle.lx_emission.proofs.Runs.{block_runs}
-use Rattle.lx_emission.proofs.Blocks.{sync_plain, sync_below, clocked_some, clocked_own, reset_within}
-use Rattle.lx_emission.proofs.Within.{list_made}
+use Rattle.lx_emission.proofs.Blocks.{list_made, sync_plain, sync_below, sync_some, sync_own, reset_within}
 use Rattle.lx_emission.proofs.Whole.{cycle_meaning, drivers_are, memory_blocks}
 use Rattle.lx_emission.proofs.Follow.{Moment, moment, patterns_of, has_patterns, words_have, settled_for, settles, reset_assigned, own_pattern, made_within}
 
@@ -137,8 +136,8 @@ sync_drive d x k e = ap (drive_by d x) e
 registered : (d : Design) (names : List Name) (x k : ℕ) → CanBeEmitted d names → role (circuit_of d) x ≡ circuit.Sync k → x < length d.signals
 registered d names x k can e =
     let f = sync_drive d x k e in
-    let list = clocked_own d x k (own d x (stmts_of k d.sync)) can.keeps can.lowered f in
-    list_made d x can.keeps (own d x (stmts_of k d.sync)) list.plain (clocked_some d x k (own d x (stmts_of k d.sync)) f)
+    let list = sync_own d x k (own d x (stmts_of k d.sync)) can.keeps can.lowered f in
+    list_made d x can.keeps (own d x (stmts_of k d.sync)) list.plain (sync_some d x k (own d x (stmts_of k d.sync)) f)
 
 registered_next : (d : Design) (names : List Name) (state v : Values) (v_state w : Valuation) (rises : ℕ → Bool) (v_rises : Name → Bool) (x k : ℕ) → CanBeEmitted d names → Moment d names v w
     → role (circuit_of d) x ≡ circuit.Sync k → v_state.nets (net names x) ≡ modulo (state (At x)) (2 ^ (shapes d x).bits) → v (At x) ≡ state (At x) → v_rises (clock d k) ≡ rises k
@@ -149,7 +148,7 @@ registered_next d names state v v_state w rises v_rises x k can now e same held 
     let lt = registered d names x k can e in
     let f = sync_drive d x k e in
     let ids = own d x (stmts_of k d.sync) in
-    let within = clocked_within d x k ids f in
+    let within = drive_within d x k ids f in
     let (y, there) = node_there d.domains k within in
     let body = sync_body d names x k ids in
     let is : driver m (net names x) ≡ runs.Clocked (clock d k) body = ap first_driver ((drivers_are d names can).signals x lt) ∙ ap (driver_by d names x) f in
@@ -233,7 +232,7 @@ steps d names can state inputs v v_state w v_inputs rises v_rises fits inputs_fi
     let now = moment d names v w can all (settled_patterns d names state inputs v v_state w v_inputs can fits inputs_fit same_s same_i settled v_settled) in
     record {
       signals = λ x k e.
-          let within = clocked_within d x k (own d x (stmts_of k d.sync)) (sync_drive d x k e) in
+          let within = drive_within d x k (own d x (stmts_of k d.sync)) (sync_drive d x k e) in
           registered_next d names state v v_state w rises v_rises x k can now e (same_s.signals x k e) (sync_held d state inputs v x k settled e) (rise k (within_circuit d k within));
       words = λ k a lt. word_next d names state inputs v v_state w rises v_rises k a can now same_s settled (λ x within. rise x (within_circuit d x within)) lt;
     }

@@ -33,16 +33,16 @@ use Rattle.lx_emission.proofs.Setting.{IsNetNode, TermsAreSmall, LetsRead, Opera
 use Rattle.lx_emission.proofs.Names.{domain_at, each_of, memory_once}
 use Rattle.lx_emission.proofs.Structure.{clock_port, node_wire, is_register_signal, is_register_node, clock_is_input, net_node_within}
 use Rattle.lx_emission.proofs.Classes.{the_memory, declared_once}
-use Rattle.lx_emission.proofs.Parts.{HoldsOfBlocks, lets_read, clocked_within, writing_within, each_port, each_decl, each_assign, each_memory, each_init, each_always, ports_hold, decls_hold, inits_hold, assigns_hold, blocks_hold}
+use Rattle.lx_emission.proofs.Parts.{HoldsOfBlocks, lets_read, drive_within, writing_within, each_port, each_decl, each_assign, each_memory, each_init, each_always, ports_hold, decls_hold, inits_hold, assigns_hold, blocks_hold}
 use Rattle.lx_emission.proofs.Drivers.{drivers_signal, drivers_node, drivers_clock, drivers_memory, drivers_none}
 use Rattle.lx_emission.proofs.Fitting.{operands_fit, node_text_fits, reset_text_fits, signal_bits}
 use Rattle.lx_emission.proofs.Lawful.{node_name_lawful, clock_name_lawful, net_lawful, memory_lawful, operands_lawful, node_text_lawful, reset_lawful, reset_value_lawful}
-use Rattle.lx_emission.proofs.Blocks.{AlwaysFits, sets_alone, combined_fits, clocked_fits}
-use Rattle.lx_emission.proofs.BlockLawful.{combined_lawful, clocked_lawful}
+use Rattle.lx_emission.proofs.Blocks.{AlwaysFits, sets_alone, comb_fits, sync_fits}
+use Rattle.lx_emission.proofs.BlockLawful.{comb_lawful, sync_lawful}
 use Rattle.lx_emission.proofs.Inits.{AreBlocks, each_line, all_lines, block_of_one, own_block}
 use Rattle.lx_emission.proofs.Writers.{sized}
 use Rattle.lx_emission.proofs.WriteBlocks.{writes_alone, memory_fits, memory_body_lawful}
-use Rattle.lx_emission.proofs.Loop.{DriversAre, equal_side, no_loop}
+use Rattle.lx_emission.proofs.Loop.{DriversAre, assign_side, no_loop}
 
 -- all expressions have 1 to 127 bits
 pub terms_small : (d : Design) → Keeps d → TermsAreSmall d
@@ -109,8 +109,8 @@ always_blocks d names can =
     let f = facts d names can in
     let input = λ (k : ℕ) (lt : k < length d.domains). (clock_is_input d names keeps can.named k lt).1 in
     record {
-      comb = λ x body lt e. combined_fits d names m x keeps can.lowered f.lets f.operands (register_of d names x can lt (CombBlock body) e refl) lt (reset_text_fits d names m keeps x lt) body e;
-      sync = λ x k body lt e. clocked_fits d names m x keeps can.lowered f.lets f.operands (register_of d names x can lt (Sync k body) e refl) lt (reset_text_fits d names m keeps x lt) k body e (input k (clocked_within d x k body e));
+      comb = λ x body lt e. comb_fits d names m x keeps can.lowered f.lets f.operands (register_of d names x can lt (CombBlock body) e refl) lt (reset_text_fits d names m keeps x lt) body e;
+      sync = λ x k body lt e. sync_fits d names m x keeps can.lowered f.lets f.operands (register_of d names x can lt (Sync k body) e refl) lt (reset_text_fits d names m keeps x lt) k body e (input k (drive_within d x k body e));
       memories = λ k x lt e. memory_fits d names m keeps f.lets k x e (input x (writing_within d keeps k x e));
     }
 
@@ -147,7 +147,7 @@ names_of d names can =
       assigns = each_assign (λ a. assign_names m a) d names
           (λ k is. wire_named m (node_net d.exprs k) (node_text d names k) (f.lets.nodes k is) (is_wire (is_register m (node_net d.exprs k)) (is_register_node d names keeps can.named k is)) (node_text_fits d names m keeps can.lowered f.lets f.small k is).names)
           (λ x lt e. wire_named m (net names x) (reset_text d x) (f.lets.signals x lt) (wire_of d names x can lt Undriven e refl) (reset_text_fits d names m keeps x lt).names)
-          (λ x value lt e. wire_named m (net names x) (operand d names value.place) (f.lets.signals x lt) (wire_of d names x can lt (CombAssign value) e refl) (f.operands.each value.place (equal_side d x value keeps can.lowered e).within).names);
+          (λ x value lt e. wire_named m (net names x) (operand d names value.place) (f.lets.signals x lt) (wire_of d names x can lt (CombAssign value) e refl) (f.operands.each value.place (assign_side d x value keeps can.lowered e).within).names);
       blocks = tests_of_blocks (λ a. always_names m a) d names can (λ a h. h.names);
     }
 
@@ -201,7 +201,7 @@ widths_of d names can =
           (λ x value lt e.
           let bits = signal_bits d keeps x lt in
           let own = ap (λ z. z.bits) (f.lets.declares.signals x lt) in
-          right_from_owns s (s (net names x)).bits (operand d names value.place) (omega (arith, own, bits.1)) (f.operands.each value.place (equal_side d x value keeps can.lowered e).within).widths);
+          right_from_owns s (s (net names x)).bits (operand d names value.place) (omega (arith, own, bits.1)) (f.operands.each value.place (assign_side d x value keeps can.lowered e).within).widths);
       blocks = tests_of_blocks (λ a. always_widths s a) d names can (λ a h. h.widths);
     }
 
@@ -271,16 +271,16 @@ node_lawful : (d : Design) → TermsAreSmall d → (k : ℕ) → IsNetNode d k �
 node_lawful d small k is = record { name = node_name_lawful (nets_before d.exprs k); bits = (small.each k (net_node_within d k is)).some; init = tt }
 
 -- an input has no first value
-given_init : (s : Shape) (z : ℤ) (g : Drive) → is_input_drive g ≡ true → init_of s z g ≡ None
-given_init s z Input e = refl
-given_init s z Undriven e = refl
-given_init s z (CombAssign value) e = refl
-given_init s z (CombBlock body) e = absurd cc
-given_init s z (Sync k body) e = absurd cc
+input_init : (s : Shape) (z : ℤ) (g : Drive) → is_input_drive g ≡ true → init_of s z g ≡ None
+input_init s z Input e = refl
+input_init s z Undriven e = refl
+input_init s z (CombAssign value) e = refl
+input_init s z (CombBlock body) e = absurd cc
+input_init s z (Sync k body) e = absurd cc
 
 port_lawful : (d : Design) (names : List Name) → Keeps d → NamesFit d names → (x : ℕ) → x < length d.signals → IsPort (signal_port d names x)
 unfolding signal_net
-port_lawful d names keeps fit x lt = record { net = signal_lawful d names keeps fit x lt; wire = given_init (shape_of_signal d x) (reset_of_signal d x) (drive d x) }
+port_lawful d names keeps fit x lt = record { net = signal_lawful d names keeps fit x lt; wire = input_init (shape_of_signal d x) (reset_of_signal d x) (drive d x) }
 
 clock_port_lawful : (d : Design) → Keeps d → (k : ℕ) → k < length d.domains → IsPort (clock_port d k)
 clock_port_lawful d keeps k lt = record { net = record { name = clock_lawful d keeps k lt; bits = omega arith; init = tt }; wire = λ e. refl }
@@ -312,10 +312,10 @@ lawful d names can =
       assigns = assigns_hold IsAssign d names
           (λ k is. record { name = node_name_lawful (nets_before d.exprs k); value = node_text_lawful d names keeps can.lowered fit small k is })
           (λ x lt e. record { name = net_lawful d names fit x lt; value = reset_lawful d keeps x lt 32 })
-          (λ x value lt e. record { name = net_lawful d names fit x lt; value = operands.each value.place 32 (equal_side d x value keeps can.lowered e).within });
+          (λ x value lt e. record { name = net_lawful d names fit x lt; value = operands.each value.place 32 (assign_side d x value keeps can.lowered e).within });
       always = blocks_hold IsAlways d names (record {
-        comb = λ x body lt e. record { clock = tt; body = combined_lawful d names x keeps can.lowered operands fit lt (reset_lawful d keeps x lt) body e };
-        sync = λ x k body lt e. record { clock = clock_lawful d keeps k (clocked_within d x k body e); body = clocked_lawful d names x keeps can.lowered operands fit lt (reset_lawful d keeps x lt) k body e };
+        comb = λ x body lt e. record { clock = tt; body = comb_lawful d names x keeps can.lowered operands fit lt (reset_lawful d keeps x lt) body e };
+        sync = λ x k body lt e. record { clock = clock_lawful d keeps k (drive_within d x k body e); body = sync_lawful d names x keeps can.lowered operands fit lt (reset_lawful d keeps x lt) k body e };
         memories = λ k x lt e. record { clock = clock_lawful d keeps x (writing_within d keeps k x e); body = memory_body_lawful d names keeps fit k };
       });
     }
