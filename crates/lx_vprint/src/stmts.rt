@@ -2,7 +2,7 @@
 
 ghost use Rattle.std.specs.Prelude.{◌≡◌, ◌++◌, ◌+◌, ◌^◌, ◌<◌, ◌≤◌, length, codes, IsTrue, OnOk};
 ghost use Rattle.lx_vtext.specs.Printed.{indent, expr_text, target_text, stmt_text, else_text, block_text, sets_text};
-ghost use Rattle.lx_vtext.specs.Tree as tree;
+ghost use Rattle.lx_vtext.specs.Tree as t;
 ghost use Rattle.lx_vtree.specs.Trees.{tree_at};
 ghost use Rattle.lx_vtree.specs.Stmts.{plant_target, plant_block, plant_else, stmt_at, are_stmts_below, is_else_below, is_target_placed, StmtsPlaced};
 
@@ -68,7 +68,7 @@ fn put_assignment(
 ) -> Result<(), NoMemory>
     requires target { IsTrue (is_target_placed (length exprs.now) target.now) }
     requires value { value.place < length exprs.now }
-    ensures { OnOk result (out.new ≡ out.old ++ stmt_text levels (tree.Assign (plant_target (tree_at exprs.now) target.now) blocking (tree_at exprs.now value.place))) }
+    ensures { let at = tree_at exprs.now in OnOk result (out.new ≡ out.old ++ stmt_text levels (t.Assign (plant_target at target.now) blocking (at value.place))) }
 {
     margin(out, levels)?;
     put_target(out, exprs, target)?;
