@@ -1,7 +1,6 @@
 -- The texts of the statements for one signal have a text: lawful names, few brackets, and no deeper than the statements.
 use Rattle.std.proofs.Common.{◌≡◌, ℕ, zero, suc, ◌<◌, ◌≤◌, Bool, true, false, List, [], ◌∷◌, ◌++◌, length, refl, sym, subst, arith}
-use Rattle.std.specs.Prelude.{Option, Some, None, nat_eq, slice_get, slice_index_or, IsTrue}
-use Rattle.std.specs.List.{list_all}
+use Rattle.std.specs.Prelude.{Option, Some, None, nat_eq, slice_get, IsTrue}
 use Rattle.std.proofs.lemmas.Bool.{and_parts}
 use Rattle.lx_circuit.specs.Statements as tree
 use Rattle.lx_circuit.specs.Circuit.{made}
@@ -21,6 +20,7 @@ use Rattle.lx_emission.specs.Signals.{CombBlock, Sync, own, drive, domain_reset,
 use Rattle.lx_emission.specs.Texts.{block_onto, else_text, stmt_text}
 use Rattle.lx_emission.proofs.Setting.{OperandsAreLawful}
 use Rattle.lx_emission.proofs.Blocks.{Bits, AllBits, SomeBits, bits_text, text_holds, by_choice, comb_list, comb_own, sync_list, sync_own, reset_within}
+use Rattle.lx_emission.proofs.Lawful.{net_lawful}
 
 -- a statement's text is lawful where it may nest as deep as the statement
 abbrev IsLawfulText : tree.Stmt → VStmt → Type 0
@@ -81,15 +81,6 @@ sync_depth d k (p ∷ ps) h =
     (λ e. more)
 
 -- ---- the blocks of a module
-
-list_name : (names : List Name) (x : ℕ) → list_all is_name names ≡ true → x < length names → is_name (slice_index_or names x []) ≡ true
-list_name [] x h lt = absurd (omega arith)
-list_name (n ∷ ns) zero h lt = (and_parts (is_name n) (list_all is_name ns) h).0
-list_name (n ∷ ns) (suc x) h lt = list_name ns x (and_parts (is_name n) (list_all is_name ns) h).1 (omega arith)
-
--- the net of a signal has a lawful name
-pub net_lawful : (d : Design) (names : List Name) → NamesFit d names → (x : ℕ) → x < length d.signals → IsTrue (is_name (net names x))
-net_lawful d names fit x lt = list_name names x fit.lawful (omega (arith, fit.long))
 
 reset_lawful : (d : Design) (names : List Name) (x : ℕ) → IsTrue (is_name (net names x)) → ((b : ℕ) → IsExpr b (reset_text d x)) → (o : Option SigId) → ((r : SigId) → o ≡ Some r → IsTrue (is_name (net names r.0))) → IsBlock 128 (reset_block d names x o)
 reset_lawful d names x name reset None reads = tt

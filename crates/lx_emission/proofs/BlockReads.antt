@@ -15,7 +15,8 @@ use Rattle.lx_fhdl.specs.declared.design.Design.{Design}
 use Rattle.lx_emission.specs.Nodes.{operand}
 use Rattle.lx_emission.specs.Signals.{own}
 use Rattle.lx_emission.specs.Texts.{block_onto, else_text, stmt_text}
-use Rattle.lx_emission.proofs.Blocks.{text_holds, either, by_choice}
+use Rattle.lx_emission.proofs.Blocks.{text_holds, by_choice}
+use Rattle.lx_emission.proofs.Pieces.{by_either}
 
 -- a name is read by the text of an expression, whose signals x reads in these statements
 pub record TextReads (d : Design) (names : List Name) (x : ℕ) (ids : List StmtId) (n : Name) : Type 0 where
@@ -40,7 +41,7 @@ record StmtReads (d : Design) (names : List Name) (x : ℕ) (n : Name) (s : tree
   drives : tree.drives x s ≡ true
   reads : stmt_reads n v ≡ true → ReadsBy d names n (λ y. circuit.reads x (At y) s)
 
-plain_is_target : (x : ℕ) (t : tree.Target) → is_plain_target x t ≡ true → tree.is_target x t ≡ true
+pub plain_is_target : (x : ℕ) (t : tree.Target) → is_plain_target x t ≡ true → tree.is_target x t ≡ true
 plain_is_target x (tree.Whole y) h = h
 plain_is_target x (tree.Part y low len) h = h
 plain_is_target x (tree.CatTarget parts) h = absurd (cc)
@@ -60,7 +61,7 @@ list_reads d names x n s g h (i ∷ is) plain end e =
     let here = λ (y : ℕ). circuit.reads x (At y) (s i.place) in
     let later = λ (y : ℕ). circuit.reads_block x (At y) (block_at s is) in
     let all = λ (y : ℕ). here y || later y in
-    either (stmt_reads n (g i.place)) (block_reads n (block_onto g is end)) e
+    by_either (stmt_reads n (g i.place)) (block_reads n (block_onto g is end)) e
     (λ f. inr (wider d names n here all (λ y r. or_left (here y) (later y) r) ((h i.place p.0).reads f)))
     (λ f. elim (list_reads d names x n s g h is p.1 end f) [
       | inl k ↦ inl k
@@ -99,10 +100,10 @@ when_reads d names x n s g k body rest l h p q some =
     record {
       drives = or_none (tree.drives_block x (block_at s body)) (tree.drives_block x (block_at s rest)) ∙ driven;
       reads = λ e.
-          either (reads n (operand d names k)) (block_reads n (block_onto g body EndBlock) || else_reads n (else_text g rest)) e
+          by_either (reads n (operand d names k)) (block_reads n (block_onto g body EndBlock) || else_reads n (else_text g rest)) e
           (λ f. record { place = k; within = l; read = f; signals = λ y r. or_left (on y) (so y || other y) (and_from (circuit.names (At y) (term d k)) drives r driven) })
           (λ f.
-          either (block_reads n (block_onto g body EndBlock)) (else_reads n (else_text g rest)) f
+          by_either (block_reads n (block_onto g body EndBlock)) (else_reads n (else_text g rest)) f
           (λ r. wider d names n so all (λ y t. or_right (on y) (so y || other y) (or_left (so y) (other y) t)) (read_here (list_reads d names x n s g h body p EndBlock r)))
           (λ r. wider d names n other all (λ y t. or_right (on y) (so y || other y) (or_right (so y) (other y) t)) (else_reads_by d names x n s g h rest q r)));
     }
@@ -139,7 +140,7 @@ own_reads d x y [] e = e
 own_reads d x y (i ∷ is) e =
     by_choice (λ ks. circuit.reads_block x y (block d ks) ≡ true → circuit.reads_block x y (block d (i ∷ is)) ≡ true) (tree.drives x (stmt d i.place)) (i ∷ own d x is) (own d x is)
     (λ h f.
-    either (circuit.reads x y (stmt d i.place)) (circuit.reads_block x y (block d (own d x is))) f
+    by_either (circuit.reads x y (stmt d i.place)) (circuit.reads_block x y (block d (own d x is))) f
     (λ r. or_left (circuit.reads x y (stmt d i.place)) (circuit.reads_block x y (block d is)) r)
     (λ r. or_right (circuit.reads x y (stmt d i.place)) (circuit.reads_block x y (block d is)) (own_reads d x y is r)))
     (λ h f. or_right (circuit.reads x y (stmt d i.place)) (circuit.reads_block x y (block d is)) (own_reads d x y is f))

@@ -4,7 +4,6 @@ use Rattle.std.specs.Prelude.{Option, Some, None, slice_get, IfSome, nat_le, nat
 use Rattle.std.specs.Str.{bytes_eq}
 use Rattle.std.proofs.lemmas.Bool.{and_parts, and_from, eqb-true, le-leb, lt-ltb}
 use Rattle.std.proofs.lemmas.Option.{slice_get_within}
-use Rattle.std.proofs.lemmas.Slice.Eq.{bytes_eq-Decides}
 use Rattle.lx_circuit.specs.Statements as tree
 use Rattle.lx_circuit.specs.Circuit as circuit
 use Rattle.lx_circuit.specs.Circuit.{Role, sync_role, read_role, idle_role, role, made}
@@ -20,7 +19,7 @@ use Rattle.lx_fhdl.specs.Stmts.{target_at, block_at, stmt_at}
 use Rattle.lx_fhdl.specs.Designs as design
 use Rattle.lx_fhdl.proofs.Designs as fhdl
 use Rattle.lx_fhdl.specs.Designs.{term, stmt, block, shapes, stmts_of, made_of, domains_from, circuit_of}
-use Rattle.lx_fhdl.specs.Lowered.{is_plain_target, is_done, is_lone, is_for, branches_are_for, are_for, IsPlain, ArePlain, IsLowered}
+use Rattle.lx_fhdl.specs.Lowered.{is_plain_target, is_done, is_for, are_for, ArePlain, IsLowered}
 use Rattle.lx_fhdl.specs.Keeping.{Keeps, TargetStands, StmtStands, PartStands, IsDomain, HasResetPath, IsReset, EachOf}
 use Rattle.lx_fhdl.specs.declared.exprs.SigId.{SigId}
 use Rattle.lx_fhdl.specs.declared.design.Signal.{Signal}
@@ -40,6 +39,9 @@ use Rattle.lx_emission.proofs.Tests.{IsTest, names_test, widths_test, fits_test,
 use Rattle.lx_emission.proofs.Setting.{LetsRead, IsFit, OperandsFit, SetsAlone}
 use Rattle.lx_arena.specs.Folds.{fold_at}
 use Rattle.lx_emission.proofs.Levels.{target_within, target_of, stmt_of, stmt_within, stmt_text_of, stmt_text_within}
+use Rattle.lx_emission.proofs.Pieces.{own_for, own_some, own_below}
+use Rattle.lx_emission.proofs.Lists.{name_same}
+use Rattle.lx_fhdl.proofs.Resets.{each_of_at}
 
 -- ---- one statement for x, and its text
 
@@ -141,9 +143,6 @@ list_made d x keeps ids plain some = first_made (length d.signals) x (stmt d) (s
 
 -- ---- what statements assign
 
-same_bytes : (n : Name) → bytes_eq n n ≡ true
-same_bytes n = (bytes_eq-Decides n n).1 refl
-
 bits_name : (d : Design) (n : Name) (x : ℕ) (c : Bits d x) → target_name (bits_text d n x c) ≡ n
 bits_name d n x AllBits = refl
 bits_name d n x (SomeBits low len some inside) = refl
@@ -218,9 +217,6 @@ text_target d names now x keeps ids below plain some end = target_list x (net na
 
 -- ---- what statements read and assign is declared so
 
-all_true : (a b : Bool) → a ≡ true → b ≡ true → (a && b) ≡ true
-all_true a b p q = rw (p, q) refl
-
 pub net_bits : (d : Design) (names : List Name) (m : VModule) → LetsRead d names m → (x : ℕ) → x < length d.signals → (sizes m (net names x)).bits ≡ (shapes d x).bits
 net_bits d names m lets x lt = ap (λ s. s.bits) (lets.declares.signals x lt)
 
@@ -274,90 +270,26 @@ text_fits d names m now x keeps lets operands register lt ids plain end e = reco
       (λ c k l. bits_widths d names m x keeps lets lt c (operand d names k) (operands.each k l))
       ids plain end e.widths;
   fits = texts_pass (fits_test (net names x) now) d names now x keeps (λ k l. refl)
-      (λ c k l. and_from (bytes_eq (target_name (bits_text d (net names x) x c)) (net names x)) (if now then now else not now) (ap (λ z. bytes_eq z (net names x)) (bits_name d (net names x) x c) ∙ same_bytes (net names x)) (now_fits now))
+      (λ c k l. and_from (bytes_eq (target_name (bits_text d (net names x) x c)) (net names x)) (if now then now else not now) (ap (λ z. bytes_eq z (net names x)) (bits_name d (net names x) x c) ∙ name_same (net names x) (net names x) refl) (now_fits now))
       ids plain end e.fits;
 }
-
--- ---- the statements of a list that assign x
-
-pub either : {P : Type 0} (a b : Bool) → (a || b) ≡ true → (a ≡ true → P) → (b ≡ true → P) → P
-either true b e f g = f refl
-either false b e f g = g e
-
-target_alone : (x y : ℕ) (t : tree.Target) → is_plain_target y t ≡ true → tree.is_target x t ≡ true → y ≡ x
-target_alone x y (tree.Whole z) p q = sym (eqb-true z y p) ∙ eqb-true z x q
-target_alone x y (tree.Part z low len) p q = sym (eqb-true z y p) ∙ eqb-true z x q
-target_alone x y (tree.CatTarget parts) p q = absurd (cc)
-target_alone x y (tree.PickTarget items index) p q = absurd (cc)
-
-mutual
-  -- a statement for y drives y alone
-  stmt_alone : (x y : ℕ) (s : tree.Stmt) → is_for y s ≡ true → tree.drives x s ≡ true → y ≡ x
-  stmt_alone x y (tree.Assign t e) p q = target_alone x y t p q
-  stmt_alone x y (tree.If bs rest) p q =
-      let k = and_parts (is_lone bs rest) (branches_are_for y bs && are_for y rest) p in
-      let l = and_parts (branches_are_for y bs) (are_for y rest) k.1 in
-      either (tree.drives_branch x bs) (tree.drives_block x rest) q (branches_alone x y bs l.0) (block_alone x y rest l.1)
-  stmt_alone x y (tree.Case on arms rest) p q = absurd (cc)
-
-  branches_alone : (x y : ℕ) (bs : tree.Branches) → branches_are_for y bs ≡ true → tree.drives_branch x bs ≡ true → y ≡ x
-  branches_alone x y tree.NoBranch p q = absurd (cc)
-  branches_alone x y (tree.Branch c b more) p q =
-      let k = and_parts (are_for y b) (branches_are_for y more) p in
-      either (tree.drives_block x b) (tree.drives_branch x more) q (block_alone x y b k.0) (branches_alone x y more k.1)
-
-  block_alone : (x y : ℕ) (b : tree.Block) → are_for y b ≡ true → tree.drives_block x b ≡ true → y ≡ x
-  block_alone x y tree.Done p q = absurd (cc)
-  block_alone x y (tree.Then s ss) p q =
-      let k = and_parts (is_for y s) (are_for y ss) p in
-      either (tree.drives x s) (tree.drives_block x ss) q (stmt_alone x y s k.0) (block_alone x y ss k.1)
-
-stmt_for : (x : ℕ) (s : tree.Stmt) → IsPlain s → tree.drives x s ≡ true → is_for x s ≡ true
-stmt_for x s plain drives = subst (λ y. is_for y s ≡ true) (stmt_alone x plain.signal s plain.alone drives) plain.alone
 
 -- what holds by a test
 pub by_choice : {A : Type 0} (P : A → Type 0) (b : Bool) (u v : A) → (b ≡ true → P u) → (b ≡ false → P v) → P (if b then u else v)
 by_choice P true u v f g = f refl
 by_choice P false u v f g = g refl
 
-pub own_for : (d : Design) (x : ℕ) (ids : List StmtId) → ArePlain (block d ids) → are_for x (block d (own d x ids)) ≡ true
-unfolding own
-own_for d x [] plain = refl
-own_for d x (i ∷ is) plain =
-    let more = own_for d x is plain.1 in
-    by_choice (λ ks. are_for x (block d ks) ≡ true) (tree.drives x (stmt d i.place)) (i ∷ own d x is) (own d x is)
-    (λ e. all_true (is_for x (stmt d i.place)) (are_for x (block d (own d x is))) (stmt_for x (stmt d i.place) plain.0 e) more)
-    (λ e. more)
-
-pub own_some : (d : Design) (x : ℕ) (ids : List StmtId) → tree.drives_block x (block d ids) ≡ true → 0 < length (own d x ids)
-unfolding own
-own_some d x [] drives = absurd (cc)
-own_some d x (i ∷ is) drives =
-    by_choice (λ (ks : List StmtId). 0 < length ks) (tree.drives x (stmt d i.place)) (i ∷ own d x is) (own d x is)
-    (λ e. omega arith)
-    (λ e. either (tree.drives x (stmt d i.place)) (tree.drives_block x (block d is)) drives (λ f. absurd (cc)) (own_some d x is))
-
-pub own_below : (d : Design) (x n : ℕ) (ids : List StmtId) → all_stmts_below n ids ≡ true → all_stmts_below n (own d x ids) ≡ true
-unfolding own
-own_below d x n [] below = refl
-own_below d x n (i ∷ is) below =
-    let p = and_parts (nat_lt i.place n) (all_stmts_below n is) below in
-    let more = own_below d x n is p.1 in
-    by_choice (λ ks. all_stmts_below n ks ≡ true) (tree.drives x (stmt d i.place)) (i ∷ own d x is) (own d x is)
-    (λ e. all_true (nat_lt i.place n) (all_stmts_below n (own d x is)) p.0 more)
-    (λ e. more)
-
 -- ---- the statements of a domain
 
-plain_append : (d : Design) (is js : List StmtId) → ArePlain (block d is) → ArePlain (block d js) → ArePlain (block d (is ++ js))
+pub plain_append : (d : Design) (is js : List StmtId) → ArePlain (block d is) → ArePlain (block d js) → ArePlain (block d (is ++ js))
 plain_append d [] js p q = q
 plain_append d (i ∷ is) js p q = (p.0, plain_append d is js p.1 q)
 
-below_append : (n : ℕ) (is js : List StmtId) → all_stmts_below n is ≡ true → all_stmts_below n js ≡ true → all_stmts_below n (is ++ js) ≡ true
+pub below_append : (n : ℕ) (is js : List StmtId) → all_stmts_below n is ≡ true → all_stmts_below n js ≡ true → all_stmts_below n (is ++ js) ≡ true
 below_append n [] js p q = q
 below_append n (i ∷ is) js p q =
     let k = and_parts (nat_lt i.place n) (all_stmts_below n is) p in
-    all_true (nat_lt i.place n) (all_stmts_below n (is ++ js)) k.0 (below_append n is js k.1 q)
+    and_from (nat_lt i.place n) (all_stmts_below n (is ++ js)) k.0 (below_append n is js k.1 q)
 
 pub sync_plain : (d : Design) (k : ℕ) (ps : List SyncPart) → EachOf (λ (p : SyncPart). ArePlain (block d p.stmts)) ps → ArePlain (block d (stmts_of k ps))
 sync_plain d k [] h = tt
@@ -458,11 +390,6 @@ sync_some d x k ids e = subst (λ (ks : List StmtId). 0 < length ks) (sym (sync_
 
 -- ---- the reset of a domain
 
-each_of : {T : Type 0} (P : T → Type 0) (xs : List T) (k : ℕ) (x : T) → EachOf P xs → slice_get xs k ≡ Some x → P x
-each_of P [] k x h e = absurd (cc)
-each_of P (y ∷ ys) zero x h e = let same : y ≡ x = cc in subst P same h.0
-each_of P (y ∷ ys) (suc k) x h e = each_of P ys k x h.1 e
-
 path_within : (d : Design) (y : Domain) (r : ℕ) (o : Option Signal) → slice_get d.signals r ≡ o → HasResetPath y o → r < length d.signals
 path_within d y r None e h = absurd h
 path_within d y r (Some s) e h = slice_get_within d.signals r s e
@@ -477,7 +404,7 @@ reset_within d keeps k r e = of_domain (slice_get d.domains k) refl e
   where
     of_domain : (o : Option Domain) → slice_get d.domains k ≡ o → domain_reset o ≡ Some r → r.0 < length d.signals
     of_domain None e h = absurd (cc)
-    of_domain (Some y) e h = reset_path d y r y.reset h (each_of (IsDomain d) d.domains k y keeps.domains e).reset
+    of_domain (Some y) e h = reset_path d y r y.reset h (each_of_at (IsDomain d) d.domains keeps.domains k y e).reset
 
 pub signal_fits : (d : Design) (names : List Name) (m : VModule) → Keeps d → LetsRead d names m → (x : ℕ) → x < length d.signals → IsFit m (Net (net names x))
 signal_fits d names m keeps lets x lt =
@@ -528,7 +455,7 @@ reset_fits d names m x keeps lets lt register reset (Some r) reads =
     record {
       names = rw (on.names, register, reset.names) refl;
       widths = rw (alone_from_owns (sizes m) (Net (net names r.0)) on.widths, right) refl;
-      fits = rw (same_bytes (net names x)) refl;
+      fits = rw (name_same (net names x) (net names x) refl) refl;
     })
 
 -- an always block that may stand in the module
@@ -547,7 +474,7 @@ comb_fits d names m x keeps low lets operands register lt reset ids e =
     record {
       names = rw (register, reset.names) rest.names;
       widths = rw right rest.widths;
-      fits = rw (same_bytes (net names x)) rest.fits;
+      fits = rw (name_same (net names x) (net names x) refl) rest.fits;
     }
 
 -- so may the clocked block for x

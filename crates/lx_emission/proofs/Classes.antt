@@ -14,12 +14,13 @@ use Rattle.lx_emission.specs.Signals.{signal_net}
 use Rattle.lx_emission.specs.Emission.{ports_of, is_port, is_net_node, inner_decl, memory_decls, node_decl, decls_of, places_from, emitted}
 use Rattle.lx_emission.specs.Memories.{memory_decl}
 use Rattle.lx_emission.specs.Emits.{PortsFit}
-use Rattle.lx_emission.proofs.Lists.{by_test, same_name, name_same, name_other, names_differ, first_of_two, second_of_two, none_at_places, called, is_once, distinct_from_once, collects_memories}
+use Rattle.lx_emission.proofs.Lists.{same_name, name_same, name_other, names_differ, first_of_two, second_of_two, none_at_places, called, is_once, distinct_from_once, collects_memories}
 use Rattle.lx_emission.proofs.Names.{memory_once}
 use Rattle.lx_emission.proofs.Setting.{IsNetNode}
 use Rattle.lx_emission.proofs.Lists.{matching, collects_matching, matching_called, names_of, names_of_three, none_of_three, once_named, map_append_three, join_parts}
 use Rattle.lx_vmeaning.proofs.Declared.{new_from_distinct}
 use Rattle.lx_emission.proofs.Structure.{IsNoSignal, IsNoNode, IsNoClock, IsNoMemory, node_wire, net_node_at, net_node_is, net_node_within, port_nets, decl_called, nets_parts, nets_of_signal, nets_of_node, nets_of_clock, nets_of_none, net_of_none, net_no_memory, node_no_memory, clock_no_memory, memory_no_signal, memory_no_node, memory_no_clock}
+use Rattle.lx_circuit.proofs.Cases.{by_test}
 
 -- ---- the classes of names
 

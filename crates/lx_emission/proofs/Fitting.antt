@@ -15,7 +15,7 @@ use Rattle.lx_vmeaning.specs.Meaning.{Sizes, meaning, meanings, width_sum}
 use Rattle.lx_vmeaning.specs.Runs.{sizes}
 use Rattle.lx_vmeaning.specs.Naming.{is_memory, is_readable, is_within, names_fit, all_names_fit}
 use Rattle.lx_vmeaning.specs.Widths.{is_width}
-use Rattle.lx_vmeaning.proofs.Owns.{owns_fit, all_owns_fit}
+use Rattle.lx_vmeaning.proofs.Owns.{owns_fit, all_owns_fit, is_width-of}
 use Rattle.lx_fhdl.specs.Below.{ExprId, expr_below}
 use Rattle.lx_fhdl.specs.Nodes.{IsSmall, EachPlace, EachChild}
 use Rattle.lx_fhdl.specs.Trees.{terms_at, node_term}
@@ -54,9 +54,6 @@ operand_width d names s keeps declares k within =
     let (x, e) = node_there d.exprs k within in
     ap (λ (v : VExpr). (meaning s v).width) (operand_is d names k x e) ∙ operand_of_width d names s keeps declares k x e
 
-width_fits : (n : ℕ) → 1 ≤ n → n ≤ 128 → is_width n ≡ true
-width_fits n p q = and_from (nat_le 1 n) (nat_le n 128) (le-leb 1 n p) (le-leb n 128 q)
-
 -- ---- operands
 
 operand_of_names : (d : Design) (names : List Name) (m : VModule) → Keeps d → LetsRead d names m → (k : ℕ) (x : Expr) → slice_get d.exprs k ≡ Some x → names_fit m (operand_of names (node_net d.exprs k) (Some x)) ≡ true
@@ -71,7 +68,7 @@ operand_of_widths s names own (Sig x) = refl
 operand_of_widths s names own x = refl
 
 small_width : (a : Shape) → IsSmall a → is_width a.bits ≡ true
-small_width a small = width_fits a.bits small.some (omega (arith, small.most))
+small_width a small = is_width-of a.bits small.some (omega (arith, small.most))
 
 operand_fits : (d : Design) (names : List Name) (m : VModule) → Keeps d → LetsRead d names m → TermsAreSmall d → (k : ℕ) → k < length d.exprs → IsFit m (operand d names k)
 operand_fits d names m keeps lets small k within =
@@ -108,7 +105,7 @@ wide_fits m false e f le = f
 wide_fits m true e f le = record {
   names = and_from (names_fit m e) true f.names refl;
   widths = and_from (is_width (1 + ((meaning (sizes m) e).width + 0))) (owns_fit (sizes m) e && true)
-      (width_fits (1 + ((meaning (sizes m) e).width + 0)) (omega arith) (omega arith))
+      (is_width-of (1 + ((meaning (sizes m) e).width + 0)) (omega arith) (omega arith))
       (and_from (owns_fit (sizes m) e) true f.widths refl);
 }
 
@@ -131,7 +128,7 @@ choice_fits m r c a b f p q =
 
 -- a select lies inside its net
 slice_fits : (m : VModule) (e : VExpr) (bits low high : ℕ) → IsFit m e → (meaning (sizes m) e).width ≡ bits → low < high → high ≤ bits → bits ≤ 127 → IsFit m (slice_text e bits low high)
-slice_fits m (tree.Literal b signed value) bits low high f w p q r = record { names = refl; widths = width_fits (high - low) (omega arith) (omega arith) }
+slice_fits m (tree.Literal b signed value) bits low high f w p q r = record { names = refl; widths = is_width-of (high - low) (omega arith) (omega arith) }
 slice_fits m (tree.Net n) bits low high f w p q r = by_cover (nat_eq low 0 && nat_eq high bits)
   where
     by_cover : (b : Bool) → IsFit m (if b then tree.ToUnsigned (tree.Net n) else tree.PartSelect n (high - 1) low)
@@ -139,7 +136,7 @@ slice_fits m (tree.Net n) bits low high f w p q r = by_cover (nat_eq low 0 && na
     by_cover false = record {
       names = and_from (is_readable m n) (is_within m n (high - 1) low) f.names
           (and_from (nat_le low (high - 1)) (nat_lt (high - 1) (sizes m n).bits) (le-leb low (high - 1) (omega arith)) (lt-ltb (high - 1) (sizes m n).bits (omega (arith, w))));
-      widths = width_fits (high - 1 - low + 1) (omega arith) (omega arith);
+      widths = is_width-of (high - 1 - low + 1) (omega arith) (omega arith);
     }
 slice_fits m e bits low high f w p q r = record { names = f.names; widths = f.widths }
 
@@ -175,7 +172,7 @@ cat_fits d names m parts some each p q =
       widths =
           ap (λ (es : VExprs). owns_fit (sizes m) (concat_of es)) cat.onto
           ∙ (sym (ap (λ (es : VExprs). is_width (width_sum (meanings (sizes m) es)) && all_owns_fit (sizes m) es) cat.onto)
-          ∙ and_from (is_width (width_sum (meanings (sizes m) all))) (all_owns_fit (sizes m) all) (width_fits (width_sum (meanings (sizes m) all)) (omega arith) (omega arith)) (parts_widths d names m parts NoMore each refl));
+          ∙ and_from (is_width (width_sum (meanings (sizes m) all))) (all_owns_fit (sizes m) all) (is_width-of (width_sum (meanings (sizes m) all)) (omega arith) (omega arith)) (parts_widths d names m parts NoMore each refl));
     }
 
 repeat_fits : (m : VModule) (count : ℕ) (e : VExpr) (bits : ℕ) → IsFit m e → (meaning (sizes m) e).width ≡ bits → 1 ≤ count * bits → count * bits ≤ 127 → IsFit m (tree.Replication count e)
@@ -183,7 +180,7 @@ repeat_fits m count e bits f w p q =
     let same : count * (meaning (sizes m) e).width ≡ count * bits = ap (λ (n : ℕ). count * n) w in
     record {
       names = f.names;
-      widths = and_from (is_width (count * (meaning (sizes m) e).width)) (owns_fit (sizes m) e) (width_fits (count * (meaning (sizes m) e).width) (omega arith) (omega arith)) f.widths;
+      widths = and_from (is_width (count * (meaning (sizes m) e).width)) (owns_fit (sizes m) e) (is_width-of (count * (meaning (sizes m) e).width) (omega arith) (omega arith)) f.widths;
     }
 
 -- the text of a node fits, where its operands do
@@ -221,7 +218,7 @@ node_of_fits d names m keeps lowered lets k (Fetch memory width at) e has small 
     ap (λ s. s.bits) (lets.declares.memories memory is.there) ∙ (is.width ∙ ap (λ (a : Shape). a.bits) (sym (shape_is d keeps k (Fetch memory width at) e))) in
     record {
       names = and_from (is_memory m n) (names_fit m (operand d names at.place)) (lets.memories memory is.there) each.fit.names;
-      widths = and_from (is_width (sizes m n).bits) (owns_fit (sizes m) (operand d names at.place)) (width_fits (sizes m n).bits (omega (arith, bits, small.some)) (omega (arith, bits, small.most))) each.fit.widths;
+      widths = and_from (is_width (sizes m n).bits) (owns_fit (sizes m) (operand d names at.place)) (is_width-of (sizes m n).bits (omega (arith, bits, small.some)) (omega (arith, bits, small.most))) each.fit.widths;
     }
 
 -- the text of each node may stand where it drives its net
@@ -249,4 +246,4 @@ signal_bits d keeps x h = made_bits d.signals keeps.signals x h
 pub reset_text_fits : (d : Design) (names : List Name) (m : VModule) → Keeps d → (x : ℕ) → x < length d.signals → IsFit m (reset_text d x)
 reset_text_fits d names m keeps x h =
     let bits = signal_bits d keeps x h in
-    record { names = refl; widths = width_fits (shape_of_signal d x).bits bits.0 (omega (arith, bits.1)) }
+    record { names = refl; widths = is_width-of (shape_of_signal d x).bits bits.0 (omega (arith, bits.1)) }

@@ -3,7 +3,7 @@ use Rattle.std.proofs.Common.{◌≡◌, ℕ, zero, suc, ◌+◌, ◌<◌, ◌�
 use Rattle.std.specs.Prelude.{Some, slice_get}
 use Rattle.std.specs.List.{list_all, range_with_len}
 use Rattle.std.proofs.lemmas.Bool.Decides.{nat_tests}
-use Rattle.std.proofs.lemmas.Bool.{and_parts, eqb-true, or_cases, cases_eq}
+use Rattle.std.proofs.lemmas.Bool.{and_parts, eqb-true, or_cases, cases_eq, not-true}
 use Rattle.lx_tables.specs.VerilogWords.{verilog_words}
 use Rattle.lx_arena.specs.Folds.{fold_at}
 use Rattle.lx_circuit.specs.Places.{Place, At, Word, Kept}
@@ -32,9 +32,8 @@ use Rattle.lx_emission.specs.Memories.{first_words, port_text, memory_body, memo
 use Rattle.lx_emission.specs.Emission.{ports_of, is_port, inner_decl, memory_decls, node_decl, node_assign, decls_of, emitted}
 use Rattle.lx_emission.specs.Emits.{CanBeEmitted, PortsFit, MemoriesFit, ShowsNothing, HasIndex}
 use Rattle.lx_emission.specs.Instance.{toggle_exprs, toggle_targets, toggle_stmts, toggle_signals, toggle, toggle_names, toggle_text, swap_exprs, swap_targets, swap_stmts, swap_signals, swap, swap_names, swap_text, slices_exprs, slices_targets, slices_stmts, slices_signals, slices, slices_names, slices_text, mixed_exprs, mixed_targets, mixed_stmts, mixed_signals, mixed, mixed_names, mixed_text, branched_exprs, branched_targets, branched_stmts, branched_signals, branched, branched_names, branched_text, stored_exprs, stored_targets, stored_stmts, stored_signals, stored_memories, stored_ports, stored, stored_names, stored_text}
-use Rattle.lx_emission.proofs.Lists.{not_true}
-use Rattle.lx_emission.proofs.Names.{each_of}
 use Rattle.lx_emission.proofs.Roles.{no_reads}
+use Rattle.lx_fhdl.proofs.Resets.{each_of_at}
 
 -- ---- premises by tests
 
@@ -67,7 +66,7 @@ named_by d names h nodes =
       long = eqb-true (length names) (length d.signals + length d.memories) p.0;
       lawful = q.0;
       distinct = r.0;
-      clocks = λ k lt. not_true (is_among (clock d k) names) (counted (λ i. not (is_among (clock d i) names)) 0 (length d.domains) r.1 k (omega arith) (omega arith));
+      clocks = λ k lt. not-true (is_among (clock d k) names) (counted (λ i. not (is_among (clock d i) names)) 0 (length d.domains) r.1 k (omega arith) (omega arith));
       nodes = nodes;
     }
 
@@ -352,7 +351,7 @@ unfolding stored_exprs stored_targets stored_stmts stored_signals stored_memorie
 stored_fit = record {
   show_nothing = (refl, (refl, tt));
   one_domain = (λ h. refl, (λ h. refl, tt));
-  indices = each_of (HasIndex stored) stored_exprs (tt, (refl, (tt, (tt, (tt, (tt, (tt, (refl, tt))))))));
+  indices = each_of_at (HasIndex stored) stored_exprs (tt, (refl, (tt, (tt, (tt, (tt, (tt, (refl, tt))))))));
 }
 
 pub stored_can : CanBeEmitted stored stored_names

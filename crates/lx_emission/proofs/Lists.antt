@@ -3,7 +3,7 @@ use Rattle.std.proofs.Common.{◌≡◌, ℕ, zero, suc, ◌<◌, ◌≤◌, ◌
 use Rattle.std.specs.Prelude.{Option, Some, None, slice_get}
 use Rattle.std.specs.List.{list_all, list_any, range_with_len, AllByRecursion}
 use Rattle.std.specs.Str.{bytes_eq}
-use Rattle.std.proofs.lemmas.Bool.{and_parts, cases_eq}
+use Rattle.std.proofs.lemmas.Bool.{and_parts, cases_eq, not-true}
 use Rattle.std.proofs.lemmas.List.{append-nil, map-append}
 use Rattle.std.proofs.lemmas.Slice.Eq.{bytes_eq-Decides}
 use Rattle.lx_vtext.specs.Tree.{Name, VNet, VPort, VDecl, NetDecl, MemoryDecl, VAssign, VAlways}
@@ -15,17 +15,9 @@ use Rattle.lx_emission.specs.Emission.{places_from}
 
 -- ---- tests
 
-pub by_test : {P : Type 0} (b : Bool) → (b ≡ true → P) → (b ≡ false → P) → P
-by_test true p q = p refl
-by_test false p q = q refl
-
 pub is_false : (b : Bool) → (b ≡ true → ⊥) → b ≡ false
 is_false true h = absurd (h refl)
 is_false false h = refl
-
-pub not_true : (b : Bool) → not b ≡ true → b ≡ false
-not_true true e = absurd cc
-not_true false e = refl
 
 -- ---- names
 
@@ -60,12 +52,12 @@ one_place (m ∷ ms) h zero zero n p q = refl
 one_place (m ∷ ms) h zero (suc k) n p q =
     let same : m ≡ n = cc in
     let some = is_there n ms k q in
-    let none = not_true (list_any (bytes_eq m) ms) (and_parts (not (list_any (bytes_eq m) ms)) (is_distinct ms) h).0 in
+    let none = not-true (list_any (bytes_eq m) ms) (and_parts (not (list_any (bytes_eq m) ms)) (is_distinct ms) h).0 in
     absurd cc
 one_place (m ∷ ms) h (suc j) zero n p q =
     let same : m ≡ n = cc in
     let some = is_there n ms j p in
-    let none = not_true (list_any (bytes_eq m) ms) (and_parts (not (list_any (bytes_eq m) ms)) (is_distinct ms) h).0 in
+    let none = not-true (list_any (bytes_eq m) ms) (and_parts (not (list_any (bytes_eq m) ms)) (is_distinct ms) h).0 in
     absurd cc
 one_place (m ∷ ms) h (suc j) (suc k) n p q =
     ap suc (one_place ms (and_parts (not (list_any (bytes_eq m) ms)) (is_distinct ms) h).1 j k n p q)

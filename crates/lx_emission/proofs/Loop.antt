@@ -33,7 +33,7 @@ use Rattle.lx_emission.proofs.Names.{net_once, node_net_once, net_not_clock, net
 use Rattle.lx_emission.proofs.Structure.{IsNoSignal, IsNoNode, IsNoClock, IsNoMemory, net_node_within}
 use Rattle.lx_emission.proofs.Classes.{Class, OfSignal, OfNode, OfClock, OfMemory, OfNothing, name_classes}
 use Rattle.lx_emission.proofs.Reading.{operand_reads, node_text_reads}
-use Rattle.lx_emission.proofs.BlockReads.{text_reads, own_reads}
+use Rattle.lx_emission.proofs.BlockReads.{text_reads, own_reads, plain_is_target}
 use Rattle.lx_emission.proofs.Pieces.{own_for}
 use Rattle.lx_emission.proofs.Blocks.{comb_own, comb_list}
 
@@ -184,12 +184,6 @@ assign_list d x value e = by_role (role (circuit_of d) x) e
     by_role (roles.Sync k) h = absurd cc
     by_role roles.Undriven h = absurd cc
     by_role (roles.Read j) h = absurd cc
-
-plain_is_target : (x : ℕ) (t : tree.Target) → is_plain_target x t ≡ true → is_target x t ≡ true
-plain_is_target x (tree.Whole y) e = e
-plain_is_target x (tree.Part y low len) e = e
-plain_is_target x (tree.CatTarget parts) e = absurd cc
-plain_is_target x (tree.PickTarget items index) e = absurd cc
 
 assign_reads : (x y : ℕ) (t : tree.Target) (e : Term) → is_plain_target x t ≡ true → circuit.names (At y) e ≡ true → reads_block x (At y) (tree.Then (tree.Assign t e) tree.Done) ≡ true
 assign_reads x y t e plain h = rw (plain_is_target x t plain, h) refl

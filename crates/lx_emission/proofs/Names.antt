@@ -1,5 +1,5 @@
 -- The names of nets: no two of them are alike.
-use Rattle.std.proofs.Common.{◌≡◌, ℕ, zero, suc, ◌+◌, ◌<◌, Bool, true, false, cond, List, [], ◌∷◌, length, map, refl, sym, ap, ◌∙◌, subst, arith, inl, inr}
+use Rattle.std.proofs.Common.{◌≡◌, ℕ, zero, suc, ◌+◌, ◌<◌, Bool, true, false, cond, List, [], ◌∷◌, length, map, refl, sym, ap, ◌∙◌, arith, inl, inr}
 use Rattle.std.specs.Prelude.{Some, slice_get, codes}
 use Rattle.std.specs.List.{list_all}
 use Rattle.std.proofs.lemmas.Bool.{and_parts, cases_lt}
@@ -9,7 +9,7 @@ use Rattle.lx_vtext.specs.Tree.{Name}
 use Rattle.lx_vtext.specs.Printed.{number_text}
 use Rattle.lx_vtext.specs.Reading.{number_value}
 use Rattle.lx_vtext.proofs.Pieces.{number_back}
-use Rattle.lx_fhdl.specs.Keeping.{Keeps, IsDomain, EachOf, is_identifier, is_first, is_later}
+use Rattle.lx_fhdl.specs.Keeping.{Keeps, IsDomain, is_identifier, is_first, is_later}
 use Rattle.lx_arena.proofs.Places.{node_there}
 use Rattle.lx_fhdl.specs.declared.exprs.Expr.{Expr}
 use Rattle.lx_fhdl.specs.declared.design.Domain.{Domain}
@@ -17,6 +17,7 @@ use Rattle.lx_fhdl.specs.declared.design.Design.{Design}
 use Rattle.lx_emission.specs.Naming.{net, has_net, nets_before, node_name, node_net, clock_name, clock, memory_name, NamesFit}
 use Rattle.lx_emission.proofs.Setting.{IsNetNode}
 use Rattle.lx_emission.proofs.Lists.{one_place, is_there}
+use Rattle.lx_fhdl.proofs.Resets.{each_of_at}
 
 -- ---- nodes
 
@@ -60,11 +61,6 @@ node_net_once d j k p q e =
 
 -- ---- clocks
 
-pub each_of : {T : Type 0} (P : T → Type 0) (xs : List T) → EachOf P xs → (k : ℕ) (x : T) → slice_get xs k ≡ Some x → P x
-each_of P [] h k x e = absurd cc
-each_of P (y ∷ ys) h zero x e = let same : y ≡ x = cc in subst P same h.0
-each_of P (y ∷ ys) h (suc k) x e = each_of P ys h.1 k x e
-
 -- a domain, and its name
 pub record IsAt (d : Design) (k : ℕ) : Type 0 where
   pub domain : Domain
@@ -106,7 +102,7 @@ identifier_clock (b ∷ (c ∷ cs)) n h e =
 pub clock_not_node : (d : Design) → Keeps d → (k n : ℕ) → k < length d.domains → clock d k ≡ node_name n → ⊥
 clock_not_node d keeps k n lt e =
     let a = domain_at d k lt in
-    let is = each_of (IsDomain d) d.domains keeps.domains k a.domain a.there in
+    let is = each_of_at (IsDomain d) d.domains keeps.domains k a.domain a.there in
     identifier_clock a.domain.name n is.name (sym a.clock ∙ e)
 
 -- ---- signals and memories

@@ -202,7 +202,7 @@ sync_within x k n (y ∷ ys) other ne e = by (drives_block x y.stmts) e (λ t. s
         omega arith
     by false t rest = let within = rest t in omega arith
 
-domains-length : (d : Design) (k : ℕ) (ys : List Domain) → length (domains_from d k ys) ≡ length ys
+pub domains-length : (d : Design) (k : ℕ) (ys : List Domain) → length (domains_from d k ys) ≡ length ys
 domains-length d k [] = refl
 domains-length d k (y ∷ ys) = ap suc (domains-length d (k + 1) ys)
 

@@ -1,11 +1,8 @@
 -- What the taken assignments do to the pattern of one signal, and the statements of one signal alone.
-use Rattle.std.proofs.Common.{◌≡◌, ℕ, ℤ, zero, suc, ◌+◌, ◌-◌, ◌*◌, ◌/◌, ◌%◌, ◌^◌, ◌<◌, ◌≤◌, Bool, true, false, ◌&&◌, ◌||◌, List, [], ◌∷◌, length, nat_eq, nat_lt, not, cond, refl, sym, ◌∙◌, ap, subst, arith, eqb-true}
+use Rattle.std.proofs.Common.{◌≡◌, ℕ, ℤ, zero, suc, ◌+◌, ◌^◌, ◌<◌, ◌≤◌, Bool, true, false, ◌&&◌, ◌||◌, List, [], ◌∷◌, length, nat_eq, nat_lt, not, cond, refl, sym, ◌∙◌, ap, subst, arith, eqb-true}
 use Rattle.std.specs.Prelude.{Option, Some, None, slice_get, IsTrue}
-use Rattle.std.proofs.Math.Nat.{div-eq_of_lt}
-use Rattle.std.proofs.lemmas.Nat.{pow_pos, pow-add, mul-add-lt, mod_below, div_below}
 use Rattle.std.proofs.lemmas.Bool.{and_parts, and_from}
 use Rattle.lx_num.specs.Ints.{modulo}
-use Rattle.lx_num.proofs.Ints.{modulo-below, pow_split}
 use Rattle.lx_circuit.specs.Shapes.{Shapes}
 use Rattle.lx_circuit.specs.Places.{Values}
 use Rattle.lx_circuit.specs.Values.{value_of, is_zero}
@@ -29,26 +26,11 @@ use Rattle.lx_emission.specs.Signals.{own, is_whole, whole_value, single}
 use Rattle.lx_emission.specs.Texts.{covers}
 use Rattle.lx_arena.specs.Folds.{fold_at}
 use Rattle.lx_emission.proofs.Levels.{target_of, target_within, stmt_of, stmt_within}
-
--- bits that cover a pattern leave nothing of it
-pub laid_whole : (p n : ℕ) (z : ℤ) → p < 2 ^ n → laid_over p 0 n z ≡ modulo z (2 ^ n)
-laid_whole p n z h =
-    let e : 2 ^ (0 + n) ≡ 2 ^ n = ap (λ (k : ℕ). 2 ^ k) (omega arith) in
-    let l : p < 2 ^ (0 + n) = omega arith in
-    omega (arith, mod_below p (2 ^ 0) (pow_pos 0), ap (λ (k : ℕ). 2 ^ (0 + n) * k) (div-eq_of_lt l))
-
--- bits inside a pattern leave it one of so many bits
-pub laid_below : (p low len n : ℕ) (z : ℤ) → low + len ≤ n → p < 2 ^ n → laid_over p low len z < 2 ^ n
-laid_below p low len n z le h =
-    let split = pow_split (low + len) n le in
-    let wide = pow-add 2 low len in
-    let field = mul-add-lt (modulo z (2 ^ len)) (2 ^ low) (p % 2 ^ low) (2 ^ len) (modulo-below z (2 ^ len) (pow_pos len)) (mod_below p (2 ^ low) (pow_pos low)) in
-    let above : p / 2 ^ (low + len) < 2 ^ (n - (low + len)) = div_below p (2 ^ (low + len)) (2 ^ (n - (low + len))) (pow_pos (low + len)) (omega arith) in
-    let all = mul-add-lt (p / 2 ^ (low + len)) (2 ^ (low + len)) (modulo z (2 ^ len) * 2 ^ low + p % 2 ^ low) (2 ^ (n - (low + len))) above (omega arith) in
-    omega arith
+use Rattle.lx_circuit.proofs.Whole.{laid_whole}
+use Rattle.lx_circuit.proofs.Fitting.{laid_over_below}
 
 -- what holds on either side of a test
-by_either : {P : Type 0} (a b : Bool) → (a || b) ≡ true → (a ≡ true → P) → (b ≡ true → P) → P
+pub by_either : {P : Type 0} (a b : Bool) → (a || b) ≡ true → (a ≡ true → P) → (b ≡ true → P) → P
 by_either true b e f g = f refl
 by_either false b e f g = g e
 
@@ -86,10 +68,10 @@ same_bits s y x e = ap (λ (k : ℕ). (s k).bits) (eqb-true y x e)
 target_below : (s : Shapes) (v : Values) (x : ℕ) (t : tree.Target) (z : ℤ) → IsInside s t → is_plain_target x t ≡ true → (old : ℕ) → old < 2 ^ (s x).bits → after_pieces x old (pieces s v t z) < 2 ^ (s x).bits
 target_below s v x (tree.Whole y) z i e old l =
     let n = same_bits s y x e in
-    subst (λ (q : ℕ). q < 2 ^ (s x).bits) (sym (after_piece x y old 0 (s y).bits z e)) (laid_below old 0 (s y).bits (s x).bits z (omega arith) l)
+    subst (λ (q : ℕ). q < 2 ^ (s x).bits) (sym (after_piece x y old 0 (s y).bits z e)) (laid_over_below (s x).bits old 0 (s y).bits z (omega arith) l)
 target_below s v x (tree.Part y low len) z i e old l =
     let n = same_bits s y x e in
-    subst (λ (q : ℕ). q < 2 ^ (s x).bits) (sym (after_piece x y old low len z e)) (laid_below old low len (s x).bits z (omega arith) l)
+    subst (λ (q : ℕ). q < 2 ^ (s x).bits) (sym (after_piece x y old low len z e)) (laid_over_below (s x).bits old low len z (omega arith) l)
 target_below s v x (tree.CatTarget parts) z i e old l = absurd (cc)
 target_below s v x (tree.PickTarget items index) z i e old l = absurd (cc)
 

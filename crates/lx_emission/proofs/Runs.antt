@@ -26,9 +26,10 @@ use Rattle.lx_emission.specs.Naming.{net}
 use Rattle.lx_emission.specs.Nodes.{operand}
 use Rattle.lx_emission.specs.Texts.{covers, target_text, block_onto, else_text, stmt_text}
 use Rattle.lx_emission.proofs.Setting.{DeclaresNets, OperandsStand}
-use Rattle.lx_emission.proofs.Pieces.{laid_whole, laid_covering, after_piece, same_bits, both_are_for, KeepsBits, within_keeps, stmt_at_keeps}
+use Rattle.lx_emission.proofs.Pieces.{laid_covering, after_piece, same_bits, both_are_for, KeepsBits, within_keeps, stmt_at_keeps}
 use Rattle.lx_arena.specs.Folds.{fold_at}
 use Rattle.lx_emission.proofs.Levels.{target_of, target_within, stmt_of, stmt_within, stmt_text_of, stmt_text_within}
+use Rattle.lx_circuit.proofs.Whole.{laid_whole}
 
 -- the bits that a part names
 part_is : (p low len : ℕ) (z : ℤ) (f : ℕ → ℕ) → 1 ≤ len → ((n : ℕ) → f n ≡ modulo z (2 ^ n)) → set_bits p (low + len - 1) low (f (low + len - 1 - low + 1)) ≡ laid_over p low len z

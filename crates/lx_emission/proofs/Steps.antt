@@ -33,7 +33,7 @@ use Rattle.lx_emission.specs.Emits.{CanBeEmitted}
 use Rattle.lx_emission.proofs.Setting.{HasPatterns, SignalsFit, driver_by, clocked_drivers, memory_drivers}
 use Rattle.lx_emission.proofs.Structure.{net_of_signal}
 use Rattle.lx_emission.proofs.Classes.{memory_of_name}
-use Rattle.lx_emission.proofs.Parts.{declares, drive_within, writing_within}
+use Rattle.lx_emission.proofs.Parts.{declares, drive_within, writing_within, domains-length}
 use Rattle.lx_emission.proofs.Inits.{word_starts}
 use Rattle.lx_emission.proofs.Writers.{sized}
 use Rattle.lx_emission.proofs.MemoryRuns.{IsIn, memory_there, body_runs, written_idle, one_domain, rise_together}
@@ -160,13 +160,9 @@ registered_next d names state v v_state w rises v_rises x k can now e same held 
     ∙ (ap (λ h. modulo (cond (rises k) (risen (circuit_of d) v h x) (state (At x))) (2 ^ n)) (sym domain)
     ∙ ap (λ r. modulo (circuit.next (circuit_of d) state v rises x r) (2 ^ n)) (sym e)))
 
-domains_long : (d : Design) (j : ℕ) (xs : List Domain) → length (domains_from d j xs) ≡ length xs
-domains_long d j [] = refl
-domains_long d j (x ∷ xs) = ap suc (domains_long d (j + 1) xs)
-
 within_circuit : (d : Design) (k : ℕ) → k < length d.domains → k < length (circuit_of d).domains
 unfolding circuit_of
-within_circuit d k lt = omega (arith, domains_long d 0 d.domains)
+within_circuit d k lt = omega (arith, domains-length d 0 d.domains)
 
 sync_held : (d : Design) (state inputs v : Values) (x k : ℕ) → IsSettled (circuit_of d) state inputs v → role (circuit_of d) x ≡ circuit.Sync k → v (At x) ≡ state (At x)
 sync_held d state inputs v x k settled e = settled.each (At x) ∙ ap (by_role (circuit_of d) state inputs v x) e

@@ -3,7 +3,7 @@ use Rattle.std.proofs.Common.{◌≡◌, ℕ, ◌<◌, ◌≤◌, ◌+◌, Bool,
 use Rattle.std.specs.Prelude.{is_some, Option, Some, None, option_map, slice_get, IfSome, nat_eq, codes}
 use Rattle.std.specs.List.{list_any}
 use Rattle.std.specs.Str.{bytes_eq}
-use Rattle.std.proofs.lemmas.Bool.{and_parts, cases_eq}
+use Rattle.std.proofs.lemmas.Bool.{and_parts, cases_eq, not-true}
 use Rattle.std.proofs.lemmas.List.{append_cancel_right}
 use Rattle.std.proofs.lemmas.Option.{slice_get_within}
 use Rattle.lx_circuit.specs.Circuit as circuit
@@ -23,7 +23,7 @@ use Rattle.lx_emission.specs.Signals.{own, drive, init_of, shape_of_signal, rese
 use Rattle.lx_emission.specs.Emission.{wire, signal_port, reset_port, domain_port, domain_ports, ports_of, is_port, is_input_drive, is_net_node, inner_decl, memory_decls, node_decl, decls_of, places_from, emitted}
 use Rattle.lx_emission.specs.Memories.{memory_decl}
 use Rattle.lx_emission.specs.Emits.{PortsFit, are_once, none_is_reset}
-use Rattle.lx_emission.proofs.Lists.{is_false, not_true, name_same, name_other, Collects, collects_next, collects_after, collects_map, none_of_two, first_of_two, second_of_two, none_at_places, one_at_places, called, first_net, net_named_is, input_is, collects_outside, collects_called, collects_decls}
+use Rattle.lx_emission.proofs.Lists.{is_false, name_same, name_other, Collects, collects_next, collects_after, collects_map, none_of_two, first_of_two, second_of_two, none_at_places, one_at_places, called, first_net, net_named_is, input_is, collects_outside, collects_called, collects_decls}
 use Rattle.lx_emission.proofs.Names.{node_net_once, clock_once, clock_not_node, net_once, net_not_clock, net_not_node, net_not_memory, memory_not_clock, memory_not_node}
 use Rattle.lx_emission.proofs.Setting.{IsNetNode}
 
@@ -160,7 +160,7 @@ domains_signal : {B : Type 0} (F : List VPort → List B) → Collects F → (d 
 domains_signal F c d names x k [] h once signals clocks = c.none
 domains_signal F c d names x k (y ∷ ys) h once signals clocks =
     let parts = and_parts (not (list_any (bytes_eq y.name) (map (λ (z : Domain). z.name) ys))) (is_distinct (map (λ (z : Domain). z.name) ys)) once in
-    let fresh = not_true (list_any (bytes_eq y.name) (map (λ (z : Domain). z.name) ys)) parts.0 in
+    let fresh = not-true (list_any (bytes_eq y.name) (map (λ (z : Domain). z.name) ys)) parts.0 in
     domain_part F c d names k y ys
     ∙ second_of_two (F (clock_port d k ∷ [])) (F (reset_port d names y.reset) ++ F (domain_ports d names (k + 1) ys)) (clocks k (omega arith) (omega arith))
     ∙ reset_signal F c d names x y (circuit.is_some_reset x (domains_from d (k + 1) ys)) (F (domain_ports d names (k + 1) ys)) h.0 signals
@@ -181,7 +181,7 @@ ios_signal : {B : Type 0} (F : List VPort → List B) → Collects F → (d : De
 ios_signal F c d names x [] h once signals = c.none
 ios_signal F c d names x (r ∷ rs) h once signals =
     let parts = and_parts (not (circuit.is_among r.0 (map signal_number rs))) (are_once (map signal_number rs)) once in
-    let fresh = not_true (circuit.is_among r.0 (map signal_number rs)) parts.0 in
+    let fresh = not-true (circuit.is_among r.0 (map signal_number rs)) parts.0 in
     let rest = ios_signal F c d names x rs h.1 parts.1 signals in
     collects_next F c (signal_port d names r.0) (io_ports d names rs)
     ∙ elim (cases_eq r.0 x) [
@@ -202,7 +202,7 @@ no_port x [] ds h e = absurd cc
 no_port x (i ∷ is) ds h e =
     let parts = and_parts (not (circuit.is_some_reset i ds)) (none_is_reset is ds) h in
     elim (cases_eq i x) [
-      | inl same ↦ ap (λ (j : ℕ). circuit.is_some_reset j ds) (sym same) ∙ not_true (circuit.is_some_reset i ds) parts.0
+      | inl same ↦ ap (λ (j : ℕ). circuit.is_some_reset j ds) (sym same) ∙ not-true (circuit.is_some_reset i ds) parts.0
       | inr other ↦
           let rest : circuit.is_among x is ≡ true = sym (rw (ne_eqb i x other) refl) ∙ e in
           no_port x is ds parts.1 rest

@@ -2,7 +2,7 @@
 use Rattle.std.proofs.Common.{◌≡◌, ℕ, ◌≤◌, ◌<◌, ◌^◌, Bool, true, false, ◌&&◌, not, List, [], ◌∷◌, length, Option, Some, None, refl, sym, ap, subst, ◌∙◌, arith, nat_le, nat_lt, nat_eq}
 use Rattle.std.specs.Prelude.{ℤ, IsTrue, IfSome, is_some, count_by, slice_index_or}
 use Rattle.std.specs.List.{list_all, AllByRecursion}
-use Rattle.std.proofs.lemmas.Bool.{le-leb, lt-ltb, and_parts, and_from}
+use Rattle.std.proofs.lemmas.Bool.{le-leb, lt-ltb, and_parts, and_from, not_from_false}
 use Rattle.std.proofs.lemmas.Nat.{pow_pos, mod_below}
 use Rattle.lx_num.specs.declared.Shape.{Shape}
 use Rattle.lx_num.specs.Ints.{modulo}
@@ -30,7 +30,7 @@ use Rattle.lx_emission.specs.Memories.{set_line, memory_body, writing_domain}
 use Rattle.lx_emission.specs.Emission.{signal_port, is_input_drive, emitted}
 use Rattle.lx_emission.specs.Emits.{CanBeEmitted}
 use Rattle.lx_emission.proofs.Setting.{IsNetNode, TermsAreSmall, LetsRead, OperandsFit, BlocksSetAlone, driver_by, clocked_drivers}
-use Rattle.lx_emission.proofs.Names.{domain_at, each_of, memory_once}
+use Rattle.lx_emission.proofs.Names.{domain_at, memory_once}
 use Rattle.lx_emission.proofs.Structure.{clock_port, node_wire, is_register_signal, is_register_node, clock_is_input, net_node_within}
 use Rattle.lx_emission.proofs.Classes.{the_memory, declared_once}
 use Rattle.lx_emission.proofs.Parts.{HoldsOfBlocks, lets_read, drive_within, writing_within, each_port, each_decl, each_assign, each_memory, each_init, each_always, ports_hold, decls_hold, inits_hold, assigns_hold, blocks_hold}
@@ -43,6 +43,7 @@ use Rattle.lx_emission.proofs.Inits.{AreBlocks, each_line, all_lines, block_of_o
 use Rattle.lx_emission.proofs.Writers.{sized}
 use Rattle.lx_emission.proofs.WriteBlocks.{writes_alone, memory_fits, memory_body_lawful}
 use Rattle.lx_emission.proofs.Loop.{DriversAre, assign_side, no_loop}
+use Rattle.lx_fhdl.proofs.Resets.{each_of_at}
 
 -- all expressions have 1 to 127 bits
 pub terms_small : (d : Design) → Keeps d → TermsAreSmall d
@@ -81,15 +82,11 @@ facts d names can =
     let lets = lets_read d names can.keeps can.named can.ports in
     record { are = drivers_are d names can; small = small; lets = lets; operands = operands_fit d names (emitted d names) can.keeps can.lowered lets small }
 
--- a net that is no register
-is_wire : (b : Bool) → b ≡ false → not b ≡ true
-is_wire b e = rw e refl
-
 -- the net of a signal that an assign drives is a wire
 wire_of : (d : Design) (names : List Name) (x : ℕ) → CanBeEmitted d names → x < length d.signals → (g : Drive) → drive d x ≡ g → is_some (init_of (shape_of_signal d x) (reset_of_signal d x) g) ≡ false → not (is_register (emitted d names) (net names x)) ≡ true
 wire_of d names x can lt g e none =
     let is = is_register_signal d names can.keeps can.named can.ports x lt in
-    is_wire (is_register (emitted d names) (net names x)) (is ∙ (ap (λ h. is_some (init_of (shape_of_signal d x) (reset_of_signal d x) h)) e ∙ none))
+    not_from_false (is_register (emitted d names) (net names x)) (is ∙ (ap (λ h. is_some (init_of (shape_of_signal d x) (reset_of_signal d x) h)) e ∙ none))
 
 register_of : (d : Design) (names : List Name) (x : ℕ) → CanBeEmitted d names → x < length d.signals → (g : Drive) → drive d x ≡ g → is_some (init_of (shape_of_signal d x) (reset_of_signal d x) g) ≡ true → is_register (emitted d names) (net names x) ≡ true
 register_of d names x can lt g e some =
@@ -145,7 +142,7 @@ names_of d names can =
       declared_once = declared_once d names keeps can.named can.ports;
       inits = each_init (λ b. init_names m b) d names (λ k lt. all_lines (λ x. is_memory m x.name) (memory_name d names k) (memory_at d k) (λ i. f.lets.memories k lt));
       assigns = each_assign (λ a. assign_names m a) d names
-          (λ k is. wire_named m (node_net d.exprs k) (node_text d names k) (f.lets.nodes k is) (is_wire (is_register m (node_net d.exprs k)) (is_register_node d names keeps can.named k is)) (node_text_fits d names m keeps can.lowered f.lets f.small k is).names)
+          (λ k is. wire_named m (node_net d.exprs k) (node_text d names k) (f.lets.nodes k is) (not_from_false (is_register m (node_net d.exprs k)) (is_register_node d names keeps can.named k is)) (node_text_fits d names m keeps can.lowered f.lets f.small k is).names)
           (λ x lt e. wire_named m (net names x) (reset_text d x) (f.lets.signals x lt) (wire_of d names x can lt Undriven e refl) (reset_text_fits d names m keeps x lt).names)
           (λ x value lt e. wire_named m (net names x) (operand d names value.place) (f.lets.signals x lt) (wire_of d names x can lt (CombAssign value) e refl) (f.operands.each value.place (assign_side d x value keeps can.lowered e).within).names);
       blocks = tests_of_blocks (λ a. always_names m a) d names can (λ a h. h.names);
@@ -253,7 +250,7 @@ cycle_meaning d names can = record {
 clock_lawful : (d : Design) → Keeps d → (k : ℕ) → k < length d.domains → IsTrue (is_name (clock d k))
 clock_lawful d keeps k lt =
     let at = domain_at d k lt in
-    let is = each_of (IsDomain d) d.domains keeps.domains k at.domain at.there in
+    let is = each_of_at (IsDomain d) d.domains keeps.domains k at.domain at.there in
     subst (λ (n : Name). IsTrue (is_name n)) (sym at.clock) (clock_name_lawful at.domain.name is.name)
 
 init_lawful : (d : Design) → Keeps d → (x : ℕ) → x < length d.signals → (g : Drive) → IfSome (init_of (shape_of_signal d x) (reset_of_signal d x) g) IsValue

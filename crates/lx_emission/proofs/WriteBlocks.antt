@@ -4,7 +4,6 @@ use Rattle.std.specs.Prelude.{Option, Some, None, IsTrue}
 use Rattle.std.specs.List.{AllByRecursion}
 use Rattle.std.specs.Str.{bytes_eq}
 use Rattle.std.proofs.lemmas.Bool.{and_from, le-leb, lt-ltb}
-use Rattle.std.proofs.lemmas.Slice.Eq.{bytes_eq-Decides}
 use Rattle.lx_num.specs.declared.Shape.{Shape}
 use Rattle.lx_circuit.specs.Memories.{Writer, Port}
 use Rattle.lx_vtext.specs.declared.operators.BinOp.TheVariants as op
@@ -29,9 +28,7 @@ use Rattle.lx_emission.proofs.Blocks.{AlwaysFits}
 use Rattle.lx_emission.proofs.Lawful.{net_lawful, memory_lawful}
 use Rattle.lx_emission.proofs.Writes.{part_inside}
 use Rattle.lx_emission.proofs.Writers.{sized, IsWriter, HoldsOfWrites, writes_hold, writes_some}
-
-same_bytes : (n : Name) → bytes_eq n n ≡ true
-same_bytes n = (bytes_eq-Decides n n).1 refl
+use Rattle.lx_emission.proofs.Lists.{name_same}
 
 -- ---- what it writes
 
@@ -246,7 +243,7 @@ memory_fits d names m keeps lets k x e input =
     let one = block_passes (fits_test n false) ss (writes_hold d names k (λ s. stmt_fits n false s ≡ true) (λ s. stmt_fits n false s ≡ true) keeps (tests_hold (fits_test n false) d names k
     (λ q w same is i lt. refl)
     (λ q w same is i lt. and_from (bytes_eq (target_name (word_target n (Net (net names q.adr)) (memory_at d k).width (w.part * i) w.part)) n) true
-    (ap (λ (t : Name). bytes_eq t n) (target_is n (Net (net names q.adr)) (memory_at d k).width (w.part * i) w.part) ∙ same_bytes n) refl)
+    (ap (λ (t : Name). bytes_eq t n) (target_is n (Net (net names q.adr)) (memory_at d k).width (w.part * i) w.part) ∙ name_same n n refl) refl)
     (λ q w same is. refl))) in
     let target = first_target n ss (writes_some d names k x keeps e) (writes_hold d names k (λ s. stmt_target s ≡ Some n) (λ s. stmt_target s ≡ Some n) keeps (targets_hold d names k)) in
     record {
