@@ -17,5 +17,7 @@ pub record HasWords (u : Valuation) (name : Name) (width depth : ℕ) (words : �
 
 -- The text of a read, `name[index]`, stands for the word at the index, whatever the index's bits.
 abbrev pub IsWordLaw : Type 0
-IsWordLaw = (u : Valuation) (name : Name) (width depth bits : ℕ) (words : ℕ → ℤ) (i : ℤ) (index : Meaning) → 1 ≤ width → HasWords u name width depth words → Exact u bits false i index
+IsWordLaw =
+    (u : Valuation) (name : Name) (width depth bits : ℕ) (words : ℕ → ℤ) (i : ℤ) (index : Meaning)
+    → 1 ≤ width → HasWords u name width depth words → Exact u bits false i index
     → Exact u width false (wrapped (unsigned width) (words (count_of i))) (word (memory width depth) name index)
