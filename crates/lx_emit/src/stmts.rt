@@ -6,9 +6,8 @@ ghost use Rattle.lx_vtree.specs.Stmts.{StmtsPlaced, are_stmts_below};
 ghost use Rattle.lx_fhdl.specs.Designs as designs;
 ghost use Rattle.lx_fhdl.specs.Below.{all_stmts_below};
 ghost use Rattle.lx_fhdl.specs.Lowered.{IsPlain, ArePlain};
-ghost use Rattle.lx_emission.specs.Nodes.{operand};
-ghost use Rattle.lx_emission.specs.Texts.{covers, target_text, stmt_text, block_onto, else_text};
-ghost use Rattle.lx_emit.specs.Tables.{IsSheet};
+ghost use Rattle.lx_emission.specs.Texts.{covers, block_onto, else_text};
+ghost use Rattle.lx_emit.specs.Plans.{operand_in, stmt_in, target_in};
 ghost use Rattle.lx_emit.specs.Drives.{IsPlainTarget};
 ghost use Rattle.lx_emit.specs.Puts.{IsTarget, PutStmt, PutBlock, PutElse, PutStmts, texts_of};
 
@@ -29,10 +28,9 @@ fn covers(bits: u8, low: u8, len: u8) -> bool
 
 // Some bits of a signal; a slice that covers it is the whole.
 fn part(alloc: Global, sheet: &Sheet, signal: SigId, low: u8, len: u8) -> Result<VTarget, NoMemory>
-    requires sheet { IsSheet sheet.now }
-    requires signal { signal.0 < length sheet.now.design.now.signals }
+    requires signal { signal.0 < length sheet.now.design.signals }
     requires some { 1 ≤ len }
-    ensures { IfOk result (λ t. IsTarget t (target_text sheet.now.design.now sheet.now.names.now (Some (Target.Part signal low len)))) }
+    ensures { IfOk result (λ t. IsTarget t (target_in sheet.now (Some (Target.Part signal low len)))) }
 {
     let name = net_name(alloc, sheet, signal)?;
     if covers(shape_of_signal(sheet, signal).bits, low, len) {
@@ -45,10 +43,9 @@ fn part(alloc: Global, sheet: &Sheet, signal: SigId, low: u8, len: u8) -> Result
 
 /// What an assignment to a signal or to some of its bits writes.
 pub fn make_target(alloc: Global, sheet: &Sheet, id: TargetId) -> Result<VTarget, NoMemory>
-    requires sheet { IsSheet sheet.now }
-    requires place { id.place < length sheet.now.design.now.targets }
-    requires plain { IsPlainTarget (designs.target sheet.now.design.now id.place) }
-    ensures { IfOk result (λ t. IsTarget t (target_text sheet.now.design.now sheet.now.names.now (slice_get sheet.now.design.now.targets id.place))) }
+    requires place { id.place < length sheet.now.design.targets }
+    requires plain { IsPlainTarget (designs.target sheet.now.design id.place) }
+    ensures { IfOk result (λ t. IsTarget t (target_in sheet.now (slice_get sheet.now.design.targets id.place))) }
 {
     match sheet.design.targets.get(id) {
         Target::Whole(signal) => Ok(VTarget::Whole(net_name(alloc, sheet, *signal)?)),
@@ -67,12 +64,11 @@ fn put_assign(
     target: TargetId,
     value: ExprId,
 ) -> Result<VStmtId, NoMemory>
-    requires sheet { IsSheet sheet.now }
     requires placed { StmtsPlaced (length exprs.old) stmts.old }
-    requires target { target.place < length sheet.now.design.now.targets }
-    requires value { value.place < length sheet.now.design.now.exprs }
-    requires plain { IsPlainTarget (designs.target sheet.now.design.now target.place) }
-    ensures { IfOk result (λ i. PutStmt exprs.old exprs.new stmts.old stmts.new i.place (tree.Assign (target_text sheet.now.design.now sheet.now.names.now (slice_get sheet.now.design.now.targets target.place)) blocking (operand sheet.now.design.now sheet.now.names.now value.place))) }
+    requires target { target.place < length sheet.now.design.targets }
+    requires value { value.place < length sheet.now.design.exprs }
+    requires plain { IsPlainTarget (designs.target sheet.now.design target.place) }
+    ensures { IfOk result (λ i. PutStmt exprs.old exprs.new stmts.old stmts.new i.place (tree.Assign (target_in sheet.now (slice_get sheet.now.design.targets target.place)) blocking (operand_in sheet.now value.place))) }
 {
     stmts.lower();
     let target = make_target(alloc, sheet, target)?;
@@ -97,15 +93,14 @@ fn put_when(
     rest: &[StmtId],
     bound: usize,
 ) -> Result<VStmtId, NoMemory>
-    requires sheet { IsSheet sheet.now }
     requires placed { StmtsPlaced (length exprs.old) stmts.old }
-    requires within { bound ≤ length sheet.now.design.now.stmts }
-    requires cond { branch.now.cond.place < length sheet.now.design.now.exprs }
+    requires within { bound ≤ length sheet.now.design.stmts }
+    requires cond { branch.now.cond.place < length sheet.now.design.exprs }
     requires body { IsTrue (all_stmts_below bound branch.now.body) }
     requires rest { IsTrue (all_stmts_below bound rest.now) }
-    requires plain_body { ArePlain (designs.block sheet.now.design.now branch.now.body) }
-    requires plain_rest { ArePlain (designs.block sheet.now.design.now rest.now) }
-    ensures { IfOk result (λ i. PutStmt exprs.old exprs.new stmts.old stmts.new i.place (tree.When (operand sheet.now.design.now sheet.now.names.now branch.now.cond.place) (block_onto (stmt_text sheet.now.design.now sheet.now.names.now blocking) branch.now.body tree.EndBlock) (else_text (stmt_text sheet.now.design.now sheet.now.names.now blocking) rest.now))) }
+    requires plain_body { ArePlain (designs.block sheet.now.design branch.now.body) }
+    requires plain_rest { ArePlain (designs.block sheet.now.design rest.now) }
+    ensures { IfOk result (λ i. PutStmt exprs.old exprs.new stmts.old stmts.new i.place (tree.When (operand_in sheet.now branch.now.cond.place) (block_onto (stmt_in sheet.now blocking) branch.now.body tree.EndBlock) (else_text (stmt_in sheet.now blocking) rest.now))) }
 {
     let so = put_block(
         alloc,
@@ -132,11 +127,10 @@ pub fn put_stmt(
     blocking: bool,
     id: StmtId,
 ) -> Result<VStmtId, NoMemory>
-    requires sheet { IsSheet sheet.now }
     requires placed { StmtsPlaced (length exprs.old) stmts.old }
-    requires place { id.place < length sheet.now.design.now.stmts }
-    requires plain { IsPlain (designs.stmt sheet.now.design.now id.place) }
-    ensures { IfOk result (λ i. PutStmt exprs.old exprs.new stmts.old stmts.new i.place (stmt_text sheet.now.design.now sheet.now.names.now blocking id.place)) }
+    requires place { id.place < length sheet.now.design.stmts }
+    requires plain { IsPlain (designs.stmt sheet.now.design id.place) }
+    ensures { IfOk result (λ i. PutStmt exprs.old exprs.new stmts.old stmts.new i.place (stmt_in sheet.now blocking id.place)) }
 {
     match sheet.design.stmts.get(id) {
         Stmt::Assign { target, value, .. } => {
@@ -162,12 +156,11 @@ fn put_else(
     ids: &[StmtId],
     bound: usize,
 ) -> Result<Option<List<VStmtId>>, NoMemory>
-    requires sheet { IsSheet sheet.now }
     requires placed { StmtsPlaced (length exprs.old) stmts.old }
-    requires within { bound ≤ length sheet.now.design.now.stmts }
+    requires within { bound ≤ length sheet.now.design.stmts }
     requires below { IsTrue (all_stmts_below bound ids.now) }
-    requires plain { ArePlain (designs.block sheet.now.design.now ids.now) }
-    ensures { IfOk result (λ list. PutElse exprs.old exprs.new stmts.old stmts.new list (else_text (stmt_text sheet.now.design.now sheet.now.names.now blocking) ids.now)) }
+    requires plain { ArePlain (designs.block sheet.now.design ids.now) }
+    ensures { IfOk result (λ list. PutElse exprs.old exprs.new stmts.old stmts.new list (else_text (stmt_in sheet.now blocking) ids.now)) }
 {
     if ids.is_empty() {
         return Ok(None);
@@ -187,12 +180,11 @@ pub fn put_block(
     ids: &[StmtId],
     bound: usize,
 ) -> Result<List<VStmtId>, NoMemory>
-    requires sheet { IsSheet sheet.now }
     requires placed { StmtsPlaced (length exprs.old) stmts.old }
-    requires within { bound ≤ length sheet.now.design.now.stmts }
+    requires within { bound ≤ length sheet.now.design.stmts }
     requires below { IsTrue (all_stmts_below bound ids.now) }
-    requires plain { ArePlain (designs.block sheet.now.design.now ids.now) }
-    ensures { IfOk result (λ list. PutBlock exprs.old exprs.new stmts.old stmts.new list (block_onto (stmt_text sheet.now.design.now sheet.now.names.now blocking) ids.now tree.EndBlock)) }
+    requires plain { ArePlain (designs.block sheet.now.design ids.now) }
+    ensures { IfOk result (λ list. PutBlock exprs.old exprs.new stmts.old stmts.new list (block_onto (stmt_in sheet.now blocking) ids.now tree.EndBlock)) }
 {
     let list = List::new(alloc);
     put_stmts(alloc, exprs, stmts, sheet, blocking, ids, bound, list)
@@ -210,13 +202,12 @@ pub fn put_stmts(
     bound: usize,
     list: List<VStmtId>,
 ) -> Result<List<VStmtId>, NoMemory>
-    requires sheet { IsSheet sheet.now }
     requires placed { StmtsPlaced (length exprs.old) stmts.old }
-    requires within { bound ≤ length sheet.now.design.now.stmts }
+    requires within { bound ≤ length sheet.now.design.stmts }
     requires below { IsTrue (all_stmts_below bound ids.now) }
-    requires plain { ArePlain (designs.block sheet.now.design.now ids.now) }
+    requires plain { ArePlain (designs.block sheet.now.design ids.now) }
     requires there { IsTrue (are_stmts_below list (length stmts.old)) }
-    ensures { IfOk result (λ after. PutStmts exprs.old exprs.new stmts.old stmts.new list after (texts_of (stmt_text sheet.now.design.now sheet.now.names.now blocking) ids.now)) }
+    ensures { IfOk result (λ after. PutStmts exprs.old exprs.new stmts.old stmts.new list after (texts_of (stmt_in sheet.now blocking) ids.now)) }
 {
     let mut after = list;
     for id in ids {
