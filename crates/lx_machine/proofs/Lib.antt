@@ -1,0 +1,9 @@
+pub mod Access
+pub mod Accessors
+pub mod Asked
+pub mod Edges
+pub mod Given
+pub mod Hangs
+pub mod Numbers
+pub mod Settle
+pub mod Views

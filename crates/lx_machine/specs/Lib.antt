@@ -1,0 +1,9 @@
+pub mod Access
+pub mod Bus
+pub mod Gives
+pub mod Laws
+pub mod Map
+pub mod Settling
+pub mod Sound
+pub mod System
+pub mod Views
