@@ -1,25 +1,117 @@
 -- Whole accessors: all words of a register, one access after the other.
-use Rattle.std.proofs.Common.{◌≡◌, ◌≢◌, ℕ, ℤ, pos, Bool, true, false, List, [], ◌∷◌, Option, Some, None, ◌+◌, ◌*◌, ◌/◌, ◌%◌, ◌^◌, ◌<◌, ◌≤◌, ◌⊎◌, inl, inr, ◌||◌, ◌&&◌, cond, not, refl, sym, ◌∙◌, ap, subst, nat_eq, nat_le, eq-eqb, is_some, slice_get, map, zero, suc, zero-add, arith}
-use Rattle.std.proofs.lemmas.Bool.{ne_eqb, le-leb, lt-leb}
+use Rattle.std.proofs.Common.{◌≡◌, ◌≢◌, ℕ, ℤ, pos, Bool, true, false, List, [], ◌∷◌, Option, Some, None, ◌+◌, ◌*◌, ◌/◌, ◌%◌, ◌^◌, ◌<◌, ◌≤◌, ◌⊎◌, inl, inr, ◌||◌, ◌&&◌, ◌++◌, cond, not, refl, sym, ◌∙◌, ap, subst, nat_eq, nat_le, eq-eqb, is_some, slice_get, map, zero, suc, zero-add, arith}
+use Rattle.std.proofs.lemmas.Bool.{ne_eqb, le-leb, lt-leb, or_parts, or_right, both_ways, eqb-true}
 use Rattle.std.proofs.lemmas.Nat.{pow_pos, mod_below}
 use Rattle.lx_num.specs.Ints.{modulo, field_of}
 use Rattle.lx_num.proofs.Ints.{modulo-below}
 use Rattle.lx_circuit.specs.Places.{Values, At}
 use Rattle.lx_circuit.specs.Values.{count_of, is_zero, flag}
 use Rattle.lx_circuit.specs.Statements.{laid_over}
-use Rattle.lx_circuit.specs.Circuit.{Step}
+use Rattle.lx_circuit.specs.Circuit.{Step, is_among}
+use Rattle.lx_circuit.proofs.Cases.{by_test}
 use Rattle.lx_machine.specs.Map.{CsrWord, Device, StorageParts, Kind, Storage, Status, Raw, EventStatus, EventPending, Register, Shown}
 use Rattle.lx_machine.specs.System.{System, Target, Csr}
-use Rattle.lx_machine.specs.Bus.{Bus, Phase, Idle, is_on, in_reset, register, word_at, is_last, is_highest, read_at, read_word, read_of, write_of, value_of, offer_word, target, selected, address, device_next, storage_written, buffer_written, storage_of, storage_next, buffer_of, buffer_next, written_word, csr_writes, is_last_of, edge, reset_edge, moved, first_bus, reset_of, reset_of_kind}
+use Rattle.lx_machine.specs.Bus.{Bus, Phase, Idle, is_on, in_reset, register, word_at, target_of, is_last, is_highest, read_at, read_word, read_of, write_of, value_of, offer_word, target, selected, address, device_next, storage_written, buffer_written, storage_of, storage_next, buffer_of, buffer_next, written_word, csr_writes, is_last_of, edge, reset_edge, moved, first_bus, reset_of, reset_of_kind}
 use Rattle.lx_machine.specs.Gives.{Given, gives_kind, gives_shown}
 use Rattle.lx_machine.specs.Views.{State, IsSystemSettled, Runs, system_next, first_system}
 use Rattle.lx_machine.specs.Access.{Each, Ask, Asks, IsAccess, AccessRan, AccessorRan, Trace, after_edge, last_of, no_values, taking, closing, read_ask, write_ask, reads_all, writes_all, word_read, result_of, from_of, IsIdle}
-use Rattle.lx_machine.specs.Sound.{IsSound, IsRegister, IsWord, Ascend, Down, Up}
+use Rattle.lx_machine.specs.Sound.{IsSound, IsRegister, IsWord, Ascend, Down, Up, word_addresses, addresses_of, is_distinct}
 use Rattle.lx_machine.specs.Laws.{CsrRan, Acknowledges, asked_word, written, buffered, IsStorageOver, RegisterRan, fields_of, last_trace}
 use Rattle.lx_machine.proofs.Given.{at_given, register_row, Among}
 use Rattle.lx_machine.proofs.Numbers.{laid_all, laid_whole, laid_below, Lies}
 use Rattle.lx_machine.proofs.Asked.{Reaches, address_is, target_is, we_is}
 use Rattle.lx_machine.proofs.Access.{Known, known, taken_bus, the_word, idle_again, answers_all, storage_law, each_map, each_both, last_acknowledges}
+
+-- ---- tests
+
+among_by : (t : Bool) (w : CsrWord) (o : Option CsrWord) (b : Bool) → is_some (cond t (Some w) o) ≡ true → (is_some o ≡ true → b ≡ true) → (t || b) ≡ true
+among_by true w o b e h = refl
+among_by false w o b e h = h e
+
+or_more : (t a b : Bool) → (t || a) ≡ true → (a ≡ true → b ≡ true) → (t || b) ≡ true
+or_more true a b e h = refl
+or_more false a b e h = h e
+
+and_second : (a b : Bool) → (a && b) ≡ true → b ≡ true
+and_second true b e = e
+and_second false b e = absurd cc
+
+not_first : (a b : Bool) → (not a && b) ≡ true → a ≡ false
+not_first true b e = absurd cc
+not_first false b e = refl
+
+-- ---- registers of the map
+
+each_get : (P : Register → Type 0) (rs : List Register) (k : ℕ) (r : Register) → Each P rs → slice_get rs k ≡ Some r → P r
+each_get P [] k r h e = absurd cc
+each_get P (q ∷ rs) zero r h e = let same : q ≡ r = cc in subst P same h.0
+each_get P (q ∷ rs) (suc k) r h e = each_get P rs k r h.1 e
+
+pub register_is : (y : System) (k : ℕ) (r : Register) → IsSound y → register y k ≡ Some r → IsRegister y r
+register_is y k r s e = each_get (IsRegister y) y.registers k r s.registers e
+
+word_among : (ws : List CsrWord) (a : ℕ) → is_some (word_at ws a) ≡ true → is_among a (word_addresses ws) ≡ true
+word_among [] a e = absurd cc
+word_among (w ∷ ws) a e = among_by (nat_eq w.addr a) w (word_at ws a) (is_among a (word_addresses ws)) e (λ f. word_among ws a f)
+
+none_among : (ws : List CsrWord) (a : ℕ) → is_among a (word_addresses ws) ≡ false → word_at ws a ≡ None
+none_among [] a e = refl
+none_among (w ∷ ws) a e =
+    let both = or_parts (nat_eq w.addr a) (is_among a (word_addresses ws)) e in
+    ap (λ z. cond z (Some w) (word_at ws a)) both.0 ∙ none_among ws a both.1
+
+-- what stands in a list stands in a longer one
+among_first : (a : ℕ) (xs ys : List ℕ) → is_among a xs ≡ true → is_among a (xs ++ ys) ≡ true
+among_first a [] ys e = absurd cc
+among_first a (x ∷ xs) ys e = or_more (nat_eq x a) (is_among a xs) (is_among a (xs ++ ys)) e (λ f. among_first a xs ys f)
+
+among_second : (a : ℕ) (xs ys : List ℕ) → is_among a ys ≡ true → is_among a (xs ++ ys) ≡ true
+among_second a [] ys e = e
+among_second a (x ∷ xs) ys e = or_right (nat_eq x a) (is_among a (xs ++ ys)) (among_second a xs ys e)
+
+-- and in a list without repeats it stands once
+distinct_second : (xs ys : List ℕ) → is_distinct (xs ++ ys) ≡ true → is_distinct ys ≡ true
+distinct_second [] ys d = d
+distinct_second (x ∷ xs) ys d = distinct_second xs ys (and_second (not (is_among x (xs ++ ys))) (is_distinct (xs ++ ys)) d)
+
+distinct_apart : (a : ℕ) (xs ys : List ℕ) → is_distinct (xs ++ ys) ≡ true → is_among a ys ≡ true → is_among a xs ≡ false
+distinct_apart a [] ys d m = refl
+distinct_apart a (x ∷ xs) ys d m =
+    by_test (nat_eq x a)
+    (λ e. absurd (both_ways (is_among x (xs ++ ys)) (not_first (is_among x (xs ++ ys)) (is_distinct (xs ++ ys)) d)
+    (let same : x ≡ a = eqb-true x a e in let P : ℕ → Type 0 = λ n. is_among n (xs ++ ys) ≡ true in subst P (sym same) (among_second a xs ys m))))
+    (λ e. ap (λ z. z || is_among a xs) e ∙ distinct_apart a xs ys (and_second (not (is_among x (xs ++ ys))) (is_distinct (xs ++ ys)) d) m)
+
+-- a word of one register of the list has an address of the list
+address_among : (a k : ℕ) (r : Register) (rs : List Register) → slice_get rs k ≡ Some r → is_among a (word_addresses r.words) ≡ true → is_among a (addresses_of rs) ≡ true
+address_among a k r [] e m = absurd cc
+address_among a zero r (q ∷ rs) e m =
+    let same : q ≡ r = cc in
+    among_first a (word_addresses q.words) (addresses_of rs) (let P : Register → Type 0 = λ z. is_among a (word_addresses z.words) ≡ true in subst P (sym same) m)
+address_among a (suc k) r (q ∷ rs) e m = among_second a (word_addresses q.words) (addresses_of rs) (address_among a k r rs e m)
+
+-- an address of the first register is none of the others
+not_later : (a : ℕ) (xs ys : List ℕ) → is_distinct (xs ++ ys) ≡ true → is_among a xs ≡ true → is_among a ys ≡ false
+not_later a xs ys d m = by_test (is_among a ys) (λ e. absurd (both_ways (is_among a xs) (distinct_apart a xs ys d e) m)) (λ e. e)
+
+not_of : (a k : ℕ) (r : Register) (rs : List Register) → slice_get rs k ≡ Some r → is_among a (addresses_of rs) ≡ false → is_among a (word_addresses r.words) ≡ false
+not_of a k r rs e m = by_test (is_among a (word_addresses r.words)) (λ f. absurd (both_ways (is_among a (addresses_of rs)) m (address_among a k r rs e f))) (λ f. f)
+
+-- no two registers have a word at one address
+pub words_apart : (j k : ℕ) (q r : Register) (a : ℕ) (rs : List Register) → is_distinct (addresses_of rs) ≡ true → slice_get rs j ≡ Some q → slice_get rs k ≡ Some r → j ≢ k
+    → is_some (word_at r.words a) ≡ true → word_at q.words a ≡ None
+words_apart j k q r a [] d e f n m = absurd cc
+words_apart zero zero q r a (x ∷ rs) d e f n m = absurd (n refl)
+words_apart zero (suc k) q r a (x ∷ rs) d e f n m =
+    let same : x ≡ q = cc in
+    let P : Register → Type 0 = λ z. word_at z.words a ≡ None in
+    subst P same (none_among x.words a (distinct_apart a (word_addresses x.words) (addresses_of rs) d (address_among a k r rs f (word_among r.words a m))))
+words_apart (suc j) zero q r a (x ∷ rs) d e f n m =
+    let same : r ≡ x = cc in
+    let P : Register → Type 0 = λ z. is_among a (word_addresses z.words) ≡ true in
+    none_among q.words a (not_of a j q rs e (not_later a (word_addresses x.words) (addresses_of rs) d (subst P same (word_among r.words a m))))
+words_apart (suc j) (suc k) q r a (x ∷ rs) d e f n m =
+    words_apart j k q r a rs (distinct_second (word_addresses x.words) (addresses_of rs) d) e f (λ h. n (ap (λ (i : ℕ). suc i) h)) m
 
 -- ---- words of one register
 
@@ -31,6 +123,18 @@ found_by P false x w o h e k = k e
 pub found_has : (P : CsrWord → Type 0) (ws : List CsrWord) (a : ℕ) (w : CsrWord) → Each P ws → word_at ws a ≡ Some w → P w
 found_has P [] a w h e = absurd cc
 found_has P (x ∷ xs) a w h e = found_by P (nat_eq x.addr a) x w (word_at xs a) h.0 e (λ f. found_has P xs a w h.1 f)
+
+-- the word that is found has its address, in the region of the registers
+found_here : (y : System) (size a : ℕ) (t : Bool) (x w : CsrWord) (o : Option CsrWord) → nat_eq x.addr a ≡ t → IsWord y size x → cond t (Some x) o ≡ Some w
+    → (o ≡ Some w → (a ≡ 4 * (a / 4)) × (target_of y a ≡ Csr)) → (a ≡ 4 * (a / 4)) × (target_of y a ≡ Csr)
+found_here y size a true x w o e i f more =
+    let P : ℕ → Type 0 = λ n. (n ≡ 4 * (n / 4)) × (target_of y n ≡ Csr) in
+    subst P (eqb-true x.addr a e) (i.aligned, i.csr)
+found_here y size a false x w o e i f more = more f
+
+pub found_at : (y : System) (size : ℕ) (ws : List CsrWord) (a : ℕ) (w : CsrWord) → Each (λ u. IsWord y size u) ws → word_at ws a ≡ Some w → (a ≡ 4 * (a / 4)) × (target_of y a ≡ Csr)
+found_at y size [] a w h f = absurd cc
+found_at y size (x ∷ xs) a w h f = found_here y size a (nat_eq x.addr a) x w (word_at xs a) refl h.0 f (λ g. found_at y size xs a w h.1 g)
 
 -- the words of a register are found at their own addresses
 later_words : (a : ℕ) (ws : List CsrWord) → Ascend a ws → Each (λ w. a ≤ w.addr) ws
@@ -105,7 +209,7 @@ read_word_is y q t new k r w s n read e f =
     ap (λ z. cond z (write_of (target y v)) (read_of y b v (selected y v) (target y v))) (we_is y q v n.taking_asks ∙ read)
     ∙ (ap (λ (g : Target). read_of y b v (selected y v) g) (target_is y q v n.reaches n.taking_asks)
     ∙ (ap (λ (a : ℕ). read_at y b v y.registers 0 a) (address_is y q v n.reaches n.taking_asks)
-    ∙ (read_here y b v r w q.addr f y.registers k 0 e (λ j p g d. s.apart j k p r q.addr g e d (ap (λ (o : Option CsrWord). is_some o) f))
+    ∙ (read_here y b v r w q.addr f y.registers k 0 e (λ j p g d. words_apart j k p r q.addr y.registers s.addresses g e d (ap (λ (o : Option CsrWord). is_some o) f))
     ∙ ap (λ (m : ℕ). field_of (value_of y b v m r.kind) w.low w.len) (let m : k + 0 ≡ k = omega arith in m))))
 
 -- ---- a word's access of a register
@@ -141,7 +245,7 @@ reads_sum y k r s e (w ∷ ws) (t ∷ ts) new i f ran idle =
 
 pub read_law : (y : System) (k : ℕ) (r : Register) (ts : List Trace) (new : State) → RegisterRan y k r (reads_all r.words) ts new → result_of y r.words ts ≡ fields_of y k r.kind r.words ts
 read_law y k r ts new h =
-    let i = h.sound.registers k r h.is in
+    let i = register_is y k r h.sound h.is in
     reads_sum y k r h.sound h.is r.words ts new i.words (words_found 0 r.words i.ascend) h.ran h.idle.idle
 
 -- ---- what is kept stays below 2 to the size
@@ -198,7 +302,7 @@ kind_below y b v k r (EventPending m) i h = (h.storage, h.buffer)
 
 edge_below : (y : System) (b : Bus) (v : Values) → IsSound y → Below y b → Below y (edge y b v)
 edge_below y b v s h k r e =
-    let p = kind_below y b v k r r.kind (s.registers k r e) (h k r e) in
+    let p = kind_below y b v k r r.kind (register_is y k r s e) (h k r e) in
     record {
       storage = let P : Option Register → Type 0 = λ o. storage_next y b v k o < 2 ^ r.size in subst P (sym e) p.0;
       buffer = let P : Option Register → Type 0 = λ o. buffer_next y b v k o < 2 ^ r.size in subst P (sym e) p.1;
@@ -244,7 +348,7 @@ plain_word s r v w d b a f =
     ap (λ (o : Option CsrWord). written s r (write_ask v w) o d b) f
     ∙ ap (λ c. cond c (cond (is_last r.words w.addr) (laid_over b w.low w.len (pos (v / 2 ^ w.low % 2 ^ 32))) d) (laid_over d w.low w.len (pos (v / 2 ^ w.low % 2 ^ 32)))) a
 
-no_device : (d : Option Device) (size : ℕ) (v : Values) (old : ℕ) → d ≡ None → device_next d size v old ≡ old
+pub no_device : (d : Option Device) (size : ℕ) (v : Values) (old : ℕ) → d ≡ None → device_next d size v old ≡ old
 no_device d size v old e = ap (λ (o : Option Device). device_next o size v old) e
 
 plain_all : (y : System) (k v : ℕ) (r : Register) (s : StorageParts) → IsSound y → register y k ≡ Some r → r.kind ≡ Storage s → s.device ≡ None → s.atomic ≡ false
@@ -324,7 +428,7 @@ pub atomic_law : (y : System) (k v : ℕ) (r : Register) (s : StorageParts) (t :
     → RegisterRan y k r (writes_all v r.words) (t ∷ ts) new → r.kind ≡ Storage s → s.atomic ≡ true
     → new.bus.storage k ≡ device_next s.device r.size (closing (last_trace t ts)) (v % 2 ^ r.size)
 atomic_law y k v r s t ts new h kd at =
-    let i = h.sound.registers k r h.is in
+    let i = register_is y k r h.sound h.is in
     atomic_from y k v r s h.sound h.is kd at r.words t ts new i.words (words_found 0 r.words i.ascend) (words_last 0 r.words i.ascend) h.ran h.idle.idle
     ∙ ap (λ (p : ℕ). device_next s.device r.size (closing (last_trace t ts)) p)
     (laid_whole v r.size (t.from.bus.buffer k) r.words (lies_all y r.size r.words i.words) i.tiled (idle_below y t.from h.sound h.idle k r h.is).buffer)
@@ -333,13 +437,13 @@ atomic_law y k v r s t ts new h kd at =
 write_atomic : (y : System) (k v : ℕ) (r : Register) (s : StorageParts) (ts : List Trace) (new : State) → RegisterRan y k r (writes_all v r.words) ts new → r.kind ≡ Storage s → s.device ≡ None → s.atomic ≡ true
     → new.bus.storage k ≡ v % 2 ^ r.size
 write_atomic y k v r s [] new h kd nd at =
-    let i = h.sound.registers k r h.is in absurd (none_ran y v r.size r.words new i.some i.tiled h.ran)
+    let i = register_is y k r h.sound h.is in absurd (none_ran y v r.size r.words new i.some i.tiled h.ran)
 write_atomic y k v r s (t ∷ ts) new h kd nd at = atomic_law y k v r s t ts new h kd at ∙ no_device s.device r.size (closing (last_trace t ts)) (v % 2 ^ r.size) nd
 
 write_by : (y : System) (k v : ℕ) (r : Register) (s : StorageParts) (ts : List Trace) (new : State) (c : Bool) → RegisterRan y k r (writes_all v r.words) ts new → r.kind ≡ Storage s → s.device ≡ None → s.atomic ≡ c
     → new.bus.storage k ≡ v % 2 ^ r.size
 write_by y k v r s ts new false h kd nd at =
-    let i = h.sound.registers k r h.is in
+    let i = register_is y k r h.sound h.is in
     plain_all y k v r s h.sound h.is kd nd at r.words ts new i.words (words_found 0 r.words i.ascend) h.ran h.idle.idle
     ∙ laid_whole v r.size ((from_of ts new).bus.storage k) r.words (lies_all y r.size r.words i.words) i.tiled (idle_below y (from_of ts new) h.sound h.idle k r h.is).storage
 write_by y k v r s ts new true h kd nd at = write_atomic y k v r s ts new h kd nd at

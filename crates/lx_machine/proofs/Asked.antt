@@ -9,15 +9,15 @@ use Rattle.lx_machine.specs.System.{System, Target, Csr}
 use Rattle.lx_machine.specs.Bus.{Bus, Phase, Idle, Answering, is_on, is_csr, is_user, in_reset, asks, offers, writes, reads, csr_writes, csr_reads, written_word, address, selected, target, target_of, place_of, word_at, answers, phase_next, offer_word, edge, is_last, is_last_of}
 use Rattle.lx_machine.specs.Views.{State, IsSystemSettled, Runs, system_next}
 use Rattle.lx_machine.specs.Access.{Each, Ask, Asks}
-use Rattle.lx_machine.specs.Sound.{IsInput, IsSound}
+use Rattle.lx_machine.specs.Sound.{IsInput, AreInputs, IsSound}
 use Rattle.lx_machine.specs.Laws.{asked_word}
 use Rattle.lx_machine.proofs.Given.{at_input}
 
 -- ---- the port's inputs in a settled valuation
 
-reset_as : (v w : Values) (o : Option ℕ) → ((x : ℕ) → o ≡ Some x → v (At x) ≡ w (At x)) → is_reset v o ≡ is_reset w o
-reset_as v w None h = refl
-reset_as v w (Some x) h = ap (λ z. not (is_zero z)) (h x refl)
+reset_as : (y : System) (st : State) (inputs v : Values) (o : Option ℕ) → IsSystemSettled y st inputs v → AreInputs y o → is_reset v o ≡ is_reset inputs o
+reset_as y st inputs v None p i = refl
+reset_as y st inputs v (Some x) p i = ap (λ z. not (is_zero z)) (at_input y st inputs v x p i)
 
 pub asked : (y : System) (q : Ask) (st : State) (inputs v : Values) → IsSound y → Asks y q inputs → IsSystemSettled y st inputs v → Asks y q v
 asked y q st inputs v s h p = record {
@@ -27,7 +27,7 @@ asked y q st inputs v s h p = record {
   stb = at_input y st inputs v y.port.stb p s.stb ∙ h.stb;
   we = at_input y st inputs v y.port.we p s.we ∙ h.we;
   dat_w = λ e. at_input y st inputs v y.port.dat_w p s.dat_w ∙ h.dat_w e;
-  reset = reset_as v inputs (domain_at y.circuit y.sys).reset (λ x e. at_input y st inputs v x p (s.reset x e)) ∙ h.reset;
+  reset = reset_as y st inputs v (domain_at y.circuit y.sys).reset p s.reset ∙ h.reset;
 }
 
 pub asked_all : (y : System) (q : Ask) (st : State) (ts : List Step) (ws : List Values) (new : State) → IsSound y → Each (λ (t : Step). Asks y q t.inputs) ts → Runs y st ts ws new → Each (λ w. Asks y q w) ws
@@ -61,7 +61,7 @@ flag_on : (b : Bool) → not (is_zero (flag b)) ≡ b
 flag_on true = refl
 flag_on false = refl
 
-we_is : (y : System) (q : Ask) (v : Values) → Asks y q v → is_on v y.port.we ≡ q.writes
+pub we_is : (y : System) (q : Ask) (v : Values) → Asks y q v → is_on v y.port.we ≡ q.writes
 we_is y q v h = ap (λ z. not (is_zero z)) h.we ∙ flag_on q.writes
 
 -- by whether the target is answering

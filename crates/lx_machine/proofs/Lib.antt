@@ -4,6 +4,9 @@ pub mod Asked
 pub mod Edges
 pub mod Given
 pub mod Hangs
+pub mod Maps
 pub mod Numbers
+pub mod Others
 pub mod Settle
+pub mod Tiny
 pub mod Views

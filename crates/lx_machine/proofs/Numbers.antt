@@ -52,6 +52,25 @@ laid_below p low len size z h k =
     let d = laid_high_first p low len b in
     omega arith
 
+-- ---- what a word changes
+
+pub laid_word : (p low len : ℕ) (z : ℤ) → field_of (pos (laid_over p low len z)) low len ≡ modulo z (2 ^ len)
+laid_word p low len z =
+    let c = p / 2 ^ (low + len) in
+    let m = modulo z (2 ^ len) in
+    let e : m + 2 ^ len * c ≡ c * 2 ^ len + m = omega arith in
+    ap (λ (n : ℕ). n % 2 ^ len) (laid_quotient p low len z ∙ e) ∙ mod-mul-add c (2 ^ len) m (modulo-below z (2 ^ len) (pow_pos len))
+
+pub laid_rest_below : (p low len : ℕ) (z : ℤ) → laid_over p low len z % 2 ^ low ≡ p % 2 ^ low
+laid_rest_below p low len z =
+    ap (λ (n : ℕ). n % 2 ^ low) (laid_low_first p low len (modulo z (2 ^ len)))
+    ∙ mod-mul-add (modulo z (2 ^ len) + 2 ^ len * (p / 2 ^ (low + len))) (2 ^ low) (p % 2 ^ low) (mod_below p (2 ^ low) (pow_pos low))
+
+pub laid_rest_above : (p low len : ℕ) (z : ℤ) → laid_over p low len z / 2 ^ (low + len) ≡ p / 2 ^ (low + len)
+laid_rest_above p low len z =
+    ap (λ (n : ℕ). n / 2 ^ (low + len)) (laid_high_first p low len (modulo z (2 ^ len)))
+    ∙ div-mul-add (p / 2 ^ (low + len)) (2 ^ (low + len)) (modulo z (2 ^ len) * 2 ^ low + p % 2 ^ low) (low_part_below p low len (modulo z (2 ^ len)) (modulo-below z (2 ^ len) (pow_pos len)))
+
 -- the bits of v that a word of v carries
 carried_is : (v low len : ℕ) → len ≤ 32 → modulo (pos (v / 2 ^ low % 2 ^ 32)) (2 ^ len) ≡ v / 2 ^ low % 2 ^ len
 carried_is v low len h = modulo-modulo (pos (v / 2 ^ low)) len 32 h

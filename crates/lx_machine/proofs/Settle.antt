@@ -1,15 +1,16 @@
 -- A system with an order of its reads settles in exactly one way: round after round, a place of rank k
 -- stays as it is from round k + 1 on.
-use Rattle.std.proofs.Common.{◌≡◌, ℕ, true, pos, ◌+◌, ◌-◌, ◌<◌, Option, Some, None, refl, sym, ◌∙◌, ap, zero, suc, arith}
+use Rattle.std.proofs.Common.{◌≡◌, ℕ, true, pos, ◌+◌, ◌-◌, ◌<◌, Option, Some, None, List, [], ◌∷◌, refl, sym, ◌∙◌, ap, zero, suc, arith}
 use Rattle.lx_circuit.specs.Places.{Place, Values, At, Word, Kept}
-use Rattle.lx_circuit.specs.Circuit.{by_place}
+use Rattle.lx_circuit.specs.Circuit.{by_place, Step}
 use Rattle.lx_circuit.specs.Reads.{reads_at}
 use Rattle.lx_circuit.proofs.Frames.{AgreeOn}
 use Rattle.lx_circuit.proofs.Settle.{by_place_same}
 use Rattle.lx_machine.specs.System.{System}
 use Rattle.lx_machine.specs.Bus.{Bus}
 use Rattle.lx_machine.specs.Gives.{Given, given_at, all_given}
-use Rattle.lx_machine.specs.Views.{State, given_or, given_place, by_system, IsSystemSettled, is_signal_of, reads_of, system_reads, HasSystemOrder}
+use Rattle.lx_machine.specs.Views.{State, given_or, given_place, by_system, IsSystemSettled, is_signal_of, reads_of, system_reads, HasSystemOrder, Runs, system_next}
+use Rattle.lx_machine.specs.Running.{rounds, values_run, state_run}
 use Rattle.lx_machine.specs.Settling.{SystemSettlesOnce}
 use Rattle.lx_machine.proofs.Hangs.{HangsOr, agree_each, all_hang, given_hangs}
 
@@ -26,11 +27,6 @@ place_hangs y (Kept j) = tt
 
 pub by_system_same : (y : System) (st : State) (inputs v w : Values) (p : Place) → AgreeOn v w (λ q. system_reads y p q) → by_system y st inputs v p ≡ by_system y st inputs w p
 by_system_same y st inputs v w p h = or_same y st inputs v w p (given_place y p) (place_hangs y p) h
-
--- the values after so many rounds
-abbrev pub rounds : System → State → Values → ℕ → Values
-rounds y st inputs zero = λ p. pos 0
-rounds y st inputs (suc n) = λ p. by_system y st inputs (rounds y st inputs n) p
 
 pub stable : (y : System) (o : HasSystemOrder y) (st : State) (inputs : Values) (n : ℕ) (p : Place) → o.rank p < n → rounds y st inputs n p ≡ rounds y st inputs (suc n) p
 stable y o st inputs zero p h = absurd (omega arith)
@@ -70,3 +66,9 @@ settles_once y o st inputs = record {
   settled = reached_settled y o st inputs;
   only = λ v f p. agree_below y o st inputs v (reached y o st inputs) f (reached_settled y o st inputs) (suc (o.rank p)) p (omega arith);
 }
+
+-- what is computed with enough rounds is a run
+pub computed : (y : System) (n : ℕ) (o : HasSystemOrder y) → ((p : Place) → o.rank p < n) → (st : State) (steps : List Step) → Runs y st steps (values_run y n st steps) (state_run y n st steps)
+computed y n o h st [] = refl
+computed y n o h st (t ∷ ts) =
+    (record { each = λ p. stable y o st t.inputs n p (h p) }, computed y n o h (system_next y st (rounds y st t.inputs n) t.rises) ts)

@@ -1,5 +1,5 @@
 -- What accesses and accessors do, from every trace that leaves the bus idle.
-use Rattle.std.specs.Prelude.{◌≡◌, ℕ, ℤ, pos, Bool, true, false, List, [], ◌∷◌, Option, Some, None, ◌+◌, ◌*◌, ◌/◌, ◌%◌, ◌^◌, ◌≤◌, nat_le, nat_lt, not, ◌&&◌, if◌then◌else◌}
+use Rattle.std.specs.Prelude.{◌≡◌, ◌≢◌, ℕ, ℤ, pos, Bool, true, false, List, [], ◌∷◌, Option, Some, None, ◌+◌, ◌*◌, ◌/◌, ◌%◌, ◌^◌, ◌≤◌, nat_le, nat_lt, not, ◌&&◌, if◌then◌else◌, is_some}
 use Rattle.lx_num.specs.Ints.{modulo, field_of}
 use Rattle.lx_circuit.specs.Places.{Values, At}
 use Rattle.lx_circuit.specs.Values.{flag}
@@ -62,6 +62,12 @@ over_access y s r q t k =
 pub record IsStorageOver (y : System) (s : StorageParts) (r : Register) (q : Ask) (t : Trace) (new : State) (k : ℕ) : Type 0 where
   pub storage : new.bus.storage k ≡ over_access y s r q t k
   pub buffer : new.bus.buffer k ≡ buffered s r q (asked_word q r) (t.from.bus.buffer k)
+
+-- What laying a word over a register does: the word's bits become those of the number, and no others change.
+pub record IsLaidLaw : Type 0 where
+  pub word : (p low len : ℕ) (z : ℤ) → field_of (pos (laid_over p low len z)) low len ≡ modulo z (2 ^ len)
+  pub below : (p low len : ℕ) (z : ℤ) → laid_over p low len z % 2 ^ low ≡ p % 2 ^ low
+  pub above : (p low len : ℕ) (z : ℤ) → laid_over p low len z / 2 ^ (low + len) ≡ p / 2 ^ (low + len)
 
 abbrev pub IsStorageLaw : Type 0
 IsStorageLaw = (y : System) (q : Ask) (t : Trace) (new : State) → CsrRan y q t new
@@ -166,3 +172,38 @@ abbrev pub IsShownLaw : Type 0
 IsShownLaw = (y : System) → IsSound y → (st : State) (inputs v : Values) → IsSystemSettled y st inputs v
     → (k : ℕ) (r : Register) (s : StorageParts) (h : Shown) → register y k ≡ Some r → r.kind ≡ Storage s → s.shown ≡ Some h
     → (v (At h.storage) ≡ pos (st.bus.storage k)) × (v (At h.re) ≡ flag (st.bus.strobe k))
+
+-- ---- nothing else, over a whole accessor
+
+-- each of these accesses is of a word of the register
+abbrev pub AsksOf : Register → List Ask → Type 0
+AsksOf r asks = Each (λ (q : Ask). is_some (word_at r.words q.addr) ≡ true) asks
+
+-- each access of an accessor ran from an idle bus
+abbrev pub EachRan : System → List Ask → List Trace → State → Type 0
+EachRan y [] [] new = Unit {0}
+EachRan y [] (t ∷ ts) new = ⊥
+EachRan y (q ∷ qs) [] new = ⊥
+EachRan y (q ∷ qs) (t ∷ ts) new = CsrRan y q t (from_of ts new) × EachRan y qs ts new
+
+-- So the laws of one access hold of each access of an accessor.
+pub record IsEachLaw : Type 0 where
+  pub reads : (y : System) (k : ℕ) (r : Register) → IsSound y → register y k ≡ Some r → AsksOf r (reads_all r.words)
+  pub writes : (y : System) (k v : ℕ) (r : Register) → IsSound y → register y k ≡ Some r → AsksOf r (writes_all v r.words)
+  pub each : (y : System) (k : ℕ) (r : Register) (asks : List Ask) (ts : List Trace) (new : State) → RegisterRan y k r asks ts new → AsksOf r asks → EachRan y asks ts new
+
+-- storage j, with these parts, is as it was, unless its device wrote it
+pub record IsKept (s : StorageParts) (j : ℕ) (old new : Bus) : Type 0 where
+  pub storage : s.device ≡ None → new.storage j ≡ old.storage j
+  pub buffer : new.buffer j ≡ old.buffer j
+
+pub record IsOthersLaw : Type 0 where
+  -- an accessor of register k changes no storage of another register
+  pub storages : (y : System) (k : ℕ) (r : Register) (asks : List Ask) (ts : List Trace) (new : State) → RegisterRan y k r asks ts new → AsksOf r asks
+      → (j : ℕ) (g : Register) (s : StorageParts) → register y j ≡ Some g → g.kind ≡ Storage s → j ≢ k → IsKept s j (from_of ts new).bus new.bus
+  -- a read accessor changes none at all
+  pub reads : (y : System) (k : ℕ) (r : Register) (ts : List Trace) (new : State) → RegisterRan y k r (reads_all r.words) ts new
+      → (j : ℕ) (g : Register) (s : StorageParts) → register y j ≡ Some g → g.kind ≡ Storage s → IsKept s j (from_of ts new).bus new.bus
+  -- and no accessor changes a word of a RAM
+  pub ram : (y : System) (k : ℕ) (r : Register) (asks : List Ask) (ts : List Trace) (new : State) → RegisterRan y k r asks ts new → AsksOf r asks
+      → (place n : ℕ) → new.bus.ram place n ≡ (from_of ts new).bus.ram place n

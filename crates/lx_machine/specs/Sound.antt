@@ -1,9 +1,9 @@
 -- What a system keeps to, so that its accessors reach their registers.
-use Rattle.std.specs.Prelude.{◌≡◌, ◌≢◌, ℕ, Bool, true, false, List, [], ◌∷◌, Option, Some, None, ◌+◌, ◌*◌, ◌/◌, ◌<◌, ◌≤◌, ◌⊎◌, not, ◌&&◌, is_some}
+use Rattle.std.specs.Prelude.{◌≡◌, ℕ, Bool, true, false, List, [], ◌∷◌, Option, Some, None, ◌+◌, ◌*◌, ◌/◌, ◌≤◌, ◌⊎◌, not, ◌&&◌, ◌++◌}
 use Rattle.lx_circuit.specs.Circuit.{role, Input, is_among, domain_at}
 use Rattle.lx_machine.specs.Map.{CsrWord, Register}
 use Rattle.lx_machine.specs.System.{System, Csr}
-use Rattle.lx_machine.specs.Bus.{register, target_of, word_at}
+use Rattle.lx_machine.specs.Bus.{target_of}
 use Rattle.lx_machine.specs.Gives.{Given, given_at, all_given}
 use Rattle.lx_machine.specs.Access.{Each}
 
@@ -27,6 +27,11 @@ pub record IsWord (y : System) (size : ℕ) (w : CsrWord) : Type 0 where
   pub inside : w.low + w.len ≤ size
   pub short : w.len ≤ 32
 
+-- the signal is such an input, where there is one
+abbrev pub AreInputs : System → Option ℕ → Type 0
+AreInputs y None = Unit {0}
+AreInputs y (Some x) = IsInput y x
+
 -- words without gaps from the top bit down to bit 0, as with the ordering big
 abbrev pub Down : ℕ → List CsrWord → Type 0
 Down top [] = top ≡ 0
@@ -48,6 +53,14 @@ pub record IsRegister (y : System) (r : Register) : Type 0 where
   pub tiled : Down r.size r.words ⊎ Up r.size 0 r.words
   pub ascend : Ascend 0 r.words
 
+abbrev pub word_addresses : List CsrWord → List ℕ
+word_addresses [] = []
+word_addresses (w ∷ ws) = w.addr ∷ word_addresses ws
+
+abbrev pub addresses_of : List Register → List ℕ
+addresses_of [] = []
+addresses_of (r ∷ rs) = word_addresses r.words ++ addresses_of rs
+
 pub record IsSound (y : System) : Type 0 where
   -- the port's inputs, and the reset of the bus's domain where it has one, are inputs
   pub adr : IsInput y y.port.adr
@@ -56,10 +69,9 @@ pub record IsSound (y : System) : Type 0 where
   pub cyc : IsInput y y.port.cyc
   pub stb : IsInput y y.port.stb
   pub we : IsInput y y.port.we
-  pub reset : (x : ℕ) → (domain_at y.circuit y.sys).reset ≡ Some x → IsInput y x
+  pub reset : AreInputs y (domain_at y.circuit y.sys).reset
   -- no signal is given twice
   pub distinct : is_distinct (signals_of (all_given y)) ≡ true
-  pub registers : (k : ℕ) (r : Register) → register y k ≡ Some r → IsRegister y r
-  -- no two registers have a word at one address
-  pub apart : (j k : ℕ) (q r : Register) (a : ℕ) → register y j ≡ Some q → register y k ≡ Some r → j ≢ k
-      → is_some (word_at r.words a) ≡ true → word_at q.words a ≡ None
+  pub registers : Each (IsRegister y) y.registers
+  -- no two words have one address
+  pub addresses : is_distinct (addresses_of y.registers) ≡ true
