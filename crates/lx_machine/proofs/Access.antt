@@ -1,5 +1,5 @@
 -- An access of a register's region, from an idle bus.
-use Rattle.std.proofs.Common.{◌≡◌, ℕ, ℤ, pos, Bool, true, false, List, [], ◌∷◌, Option, Some, None, ◌+◌, ◌*◌, ◌/◌, ◌%◌, ◌^◌, ◌⊎◌, inl, inr, ◌||◌, ◌&&◌, cond, not, refl, sym, ◌∙◌, ap, subst, nat_eq, eq-eqb, is_some, nat_le, nat_lt, ◌-◌, ◌≤◌, zero, suc}
+use Rattle.std.proofs.Common.{◌≡◌, ℕ, ℤ, pos, Bool, true, false, List, [], ◌∷◌, Option, Some, None, ◌+◌, ◌/◌, ◌%◌, ◌^◌, inl, inr, ◌&&◌, cond, not, refl, sym, ◌∙◌, ap, subst, nat_eq, eq-eqb, is_some, nat_le, nat_lt, ◌-◌, ◌≤◌}
 use Rattle.std.proofs.lemmas.Bool.{leb-true, ltb-true}
 use Rattle.lx_num.specs.Ints.{modulo}
 use Rattle.lx_circuit.specs.Places.{Values, At}
@@ -7,17 +7,17 @@ use Rattle.lx_circuit.specs.Values.{flag}
 use Rattle.lx_circuit.specs.Statements.{laid_over}
 use Rattle.lx_circuit.specs.Memories.{laid_parts}
 use Rattle.lx_circuit.specs.Circuit.{Step}
-use Rattle.lx_machine.specs.Map.{CsrWord, Device, StorageParts, Kind, Storage, Raw, Register}
+use Rattle.lx_machine.specs.Map.{CsrWord, StorageParts, Kind, Storage, Raw, Register}
 use Rattle.lx_machine.specs.System.{System, Target, Csr}
-use Rattle.lx_machine.specs.Bus.{Bus, Phase, Idle, Answering, is_on, bit_of, register, manager_at, source_at, selected, target, target_of, place_of, address, word_at, is_last, answers, offer_word, edge, device_next, storage_written, buffer_written, storage_of, storage_next, buffer_of, buffer_next, written_word, is_last_of, pend_next, fires, clears_in, marks, csr_writes, csr_reads, ram_writes, takes, writes, offset_in, region_at}
-use Rattle.lx_machine.specs.Gives.{Given, gives_port, gives_kind, all_given, given_at, answered, ack_of, err_of, dat_r_of, is_written, is_read, offer_reads, gives}
-use Rattle.lx_machine.specs.Views.{State, IsSystemSettled, Runs, system_next}
-use Rattle.lx_machine.specs.Access.{Each, Either, Ask, Asks, Rises, IsAccess, AccessRan, Trace, until_edge, after_edge, last_of, no_values, taking, closing, write_ask}
+use Rattle.lx_machine.specs.Bus.{Bus, Phase, Idle, Answering, bit_of, register, manager_at, selected, target, place_of, address, word_at, is_last, answers, offer_word, edge, device_next, storage_written, buffer_written, storage_of, storage_next, buffer_of, buffer_next, written_word, is_last_of, pend_next, clears_in, marks, csr_writes, csr_reads, ram_writes, takes, writes, offset_in, region_at}
+use Rattle.lx_machine.specs.Gives.{Given, gives_kind, answered, ack_of, err_of, dat_r_of, is_written, is_read}
+use Rattle.lx_machine.specs.Views.{State, Runs, system_next}
+use Rattle.lx_machine.specs.Access.{Each, Either, Ask, Asks, Rises, Trace, until_edge, after_edge, last_of, no_values, taking, closing, write_ask}
 use Rattle.lx_machine.specs.Sound.{IsSound}
-use Rattle.lx_machine.specs.Laws.{CsrRan, Acknowledges, asked_word, written, buffered, over_access, IsStorageOver, fires_at, pend_over, marked, ShowsAsked, ShowsNothing, IsRawOver}
+use Rattle.lx_machine.specs.Laws.{CsrRan, Acknowledges, asked_word, written, buffered, IsStorageOver, fires_at, pend_over, marked, ShowsAsked, ShowsNothing, IsRawOver}
 use Rattle.lx_machine.proofs.Given.{at_given, port_row, register_row, Among}
 use Rattle.lx_machine.proofs.Numbers.{bit_carried}
-use Rattle.lx_machine.proofs.Edges.{SettledAt, NotReset, Two, two_edges}
+use Rattle.lx_machine.proofs.Edges.{SettledAt, NotReset, two_edges}
 use Rattle.lx_machine.proofs.Asked.{Reaches, asked_all, address_is, target_is, selected_is, writes_idle, reads_idle, phase_taken, word_idle, last_is, writes_taken, reads_taken, phase_closed, word_taken}
 
 pub each_map : {A : Type 0} (P Q : A → Type 0) (xs : List A) → ((x : A) → P x → Q x) → Each P xs → Each Q xs
@@ -122,19 +122,19 @@ acknowledges y q b z v s r p a h =
     let st : State = record { held = h.0; bus = b } in
     record {
       ack =
-        at_given y st h.1 v _ h.2 (port_row y _ s (inl refl))
-        ∙ (ap (λ (g : Target). ack_of b.phase v (selected y v) g) (target_is y q v r a)
-        ∙ (ap (λ (p : Phase). flag (answers p (selected y v))) p
-        ∙ ap (λ e. flag e) (eq-eqb (place_of y q.addr) (selected y v) (sym (selected_is y q v r a)))));
+          at_given y st h.1 v _ h.2 (port_row y _ s (inl refl))
+          ∙ (ap (λ (g : Target). ack_of b.phase v (selected y v) g) (target_is y q v r a)
+          ∙ (ap (λ (p : Phase). flag (answers p (selected y v))) p
+          ∙ ap (λ e. flag e) (eq-eqb (place_of y q.addr) (selected y v) (sym (selected_is y q v r a)))));
       err =
-        at_given y st h.1 v _ h.2 (port_row y _ s (inr (inl refl)))
-        ∙ ap (λ (g : Target). err_of b.phase v (selected y v) g) (target_is y q v r a);
+          at_given y st h.1 v _ h.2 (port_row y _ s (inr (inl refl)))
+          ∙ ap (λ (g : Target). err_of b.phase v (selected y v) g) (target_is y q v r a);
       dat_r =
-        at_given y st h.1 v _ h.2 (port_row y _ s (inr (inr (inl refl))))
-        ∙ (ap (λ (g : Target). dat_r_of b.phase v (selected y v) g) (target_is y q v r a)
-        ∙ (ap (λ (p : Phase). pos (answered p (selected y v))) p
-        ∙ (ap (λ (n : ℕ). pos (answered (Answering (place_of y q.addr) z) n)) (selected_is y q v r a)
-        ∙ ap (λ (n : ℕ). pos n) (answered_here (place_of y q.addr) z))));
+          at_given y st h.1 v _ h.2 (port_row y _ s (inr (inr (inl refl))))
+          ∙ (ap (λ (g : Target). dat_r_of b.phase v (selected y v) g) (target_is y q v r a)
+          ∙ (ap (λ (p : Phase). pos (answered p (selected y v))) p
+          ∙ (ap (λ (n : ℕ). pos (answered (Answering (place_of y q.addr) z) n)) (selected_is y q v r a)
+          ∙ ap (λ (n : ℕ). pos n) (answered_here (place_of y q.addr) z))));
     }
 
 pub answers_all : (y : System) (q : Ask) (t : Trace) (new : Bus) → IsSound y → Known y q t new → Each (Acknowledges y (the_word y t)) (after_edge y t.steps t.values)
@@ -374,18 +374,18 @@ raw_law y q t new h k r w to re we from e kd found =
     let c = taken_bus y t in
     record {
       until = each_both (λ v. Asks y q v) (SettledAt y b) (ShowsAsked y r.size to re we q) (until_edge y t.steps t.values)
-      (λ v a s. record {
-        number = λ z. raw_number y b v k r to re we from h.sound e kd s ∙ ap (λ (x : ℤ). pos (modulo x (2 ^ r.size))) (a.dat_w z);
-        written = raw_written y b v k r to re we from h.sound e kd s
-        ∙ ap (λ x. flag x) (and_yes (csr_writes y b v) (is_some (word_at r.words (address y v))) (found_some y q v r w n.reaches a found) ∙ writes_idle y q b v n.reaches a n.idle);
-        read = raw_read y b v k r to re we from h.sound e kd s
-        ∙ ap (λ x. flag x) (and_yes (csr_reads y b v) (is_some (word_at r.words (address y v))) (found_some y q v r w n.reaches a found) ∙ reads_idle y q b v n.reaches a n.idle);
-      }) n.before_asks n.before;
+          (λ v a s. record {
+            number = λ z. raw_number y b v k r to re we from h.sound e kd s ∙ ap (λ (x : ℤ). pos (modulo x (2 ^ r.size))) (a.dat_w z);
+            written = raw_written y b v k r to re we from h.sound e kd s
+                ∙ ap (λ x. flag x) (and_yes (csr_writes y b v) (is_some (word_at r.words (address y v))) (found_some y q v r w n.reaches a found) ∙ writes_idle y q b v n.reaches a n.idle);
+            read = raw_read y b v k r to re we from h.sound e kd s
+                ∙ ap (λ x. flag x) (and_yes (csr_reads y b v) (is_some (word_at r.words (address y v))) (found_some y q v r w n.reaches a found) ∙ reads_idle y q b v n.reaches a n.idle);
+          }) n.before_asks n.before;
       after = each_both (λ v. Asks y q v) (SettledAt y c) (ShowsNothing re we) (after_edge y t.steps t.values)
-      (λ v a s. record {
-        written = raw_written y c v k r to re we from h.sound e kd s
-        ∙ ap (λ x. flag (x && is_some (word_at r.words (address y v)))) (writes_taken y q c v (the_word y t) n.reaches a (phase_is y q t new.bus n));
-        read = raw_read y c v k r to re we from h.sound e kd s
-        ∙ ap (λ x. flag (x && is_some (word_at r.words (address y v)))) (reads_taken y q c v (the_word y t) n.reaches a (phase_is y q t new.bus n));
-      }) n.after_asks n.after;
+          (λ v a s. record {
+            written = raw_written y c v k r to re we from h.sound e kd s
+                ∙ ap (λ x. flag (x && is_some (word_at r.words (address y v)))) (writes_taken y q c v (the_word y t) n.reaches a (phase_is y q t new.bus n));
+            read = raw_read y c v k r to re we from h.sound e kd s
+                ∙ ap (λ x. flag (x && is_some (word_at r.words (address y v)))) (reads_taken y q c v (the_word y t) n.reaches a (phase_is y q t new.bus n));
+          }) n.after_asks n.after;
     }

@@ -1,26 +1,26 @@
 -- Whole accessors: all words of a register, one access after the other.
-use Rattle.std.proofs.Common.{◌≡◌, ◌≢◌, ℕ, ℤ, pos, Bool, true, false, List, [], ◌∷◌, Option, Some, None, ◌+◌, ◌*◌, ◌/◌, ◌%◌, ◌^◌, ◌<◌, ◌≤◌, ◌⊎◌, inl, inr, ◌||◌, ◌&&◌, ◌++◌, cond, not, refl, sym, ◌∙◌, ap, subst, nat_eq, nat_le, eq-eqb, is_some, slice_get, map, zero, suc, zero-add, arith}
+use Rattle.std.proofs.Common.{◌≡◌, ◌≢◌, ℕ, ℤ, pos, Bool, true, false, List, [], ◌∷◌, Option, Some, None, ◌+◌, ◌*◌, ◌/◌, ◌%◌, ◌^◌, ◌<◌, ◌≤◌, ◌⊎◌, inl, inr, ◌||◌, ◌&&◌, ◌++◌, cond, not, refl, sym, ◌∙◌, ap, subst, nat_eq, nat_le, eq-eqb, is_some, slice_get, zero, suc, zero-add, arith}
 use Rattle.std.proofs.lemmas.Bool.{ne_eqb, le-leb, lt-leb, or_parts, or_right, both_ways, eqb-true}
 use Rattle.std.proofs.lemmas.Nat.{pow_pos, mod_below}
 use Rattle.lx_num.specs.Ints.{modulo, field_of}
 use Rattle.lx_num.proofs.Ints.{modulo-below}
 use Rattle.lx_circuit.specs.Places.{Values, At}
-use Rattle.lx_circuit.specs.Values.{count_of, is_zero, flag}
+use Rattle.lx_circuit.specs.Values.{count_of, flag}
 use Rattle.lx_circuit.specs.Statements.{laid_over}
 use Rattle.lx_circuit.specs.Circuit.{Step, is_among}
 use Rattle.lx_circuit.proofs.Cases.{by_test}
 use Rattle.lx_machine.specs.Map.{CsrWord, Device, StorageParts, Kind, Storage, Status, Raw, EventStatus, EventPending, Register, Shown}
 use Rattle.lx_machine.specs.System.{System, Target, Csr}
-use Rattle.lx_machine.specs.Bus.{Bus, Phase, Idle, is_on, in_reset, register, word_at, target_of, is_last, is_highest, read_at, read_word, read_of, write_of, value_of, offer_word, target, selected, address, device_next, storage_written, buffer_written, storage_of, storage_next, buffer_of, buffer_next, written_word, csr_writes, is_last_of, edge, reset_edge, moved, first_bus, reset_of, reset_of_kind}
+use Rattle.lx_machine.specs.Bus.{Bus, Idle, is_on, in_reset, register, word_at, target_of, is_last, is_highest, read_at, read_word, read_of, write_of, value_of, target, selected, address, device_next, storage_written, buffer_written, storage_of, storage_next, buffer_of, buffer_next, written_word, csr_writes, is_last_of, edge, moved, first_bus, reset_of, reset_of_kind}
 use Rattle.lx_machine.specs.Gives.{Given, gives_kind, gives_shown}
 use Rattle.lx_machine.specs.Views.{State, IsSystemSettled, Runs, system_next, first_system}
-use Rattle.lx_machine.specs.Access.{Each, Ask, Asks, IsAccess, AccessRan, AccessorRan, Trace, after_edge, last_of, no_values, taking, closing, read_ask, write_ask, reads_all, writes_all, word_read, result_of, from_of, IsIdle}
+use Rattle.lx_machine.specs.Access.{Each, Ask, AccessRan, AccessorRan, Trace, taking, closing, read_ask, write_ask, reads_all, writes_all, word_read, result_of, from_of, IsIdle}
 use Rattle.lx_machine.specs.Sound.{IsSound, IsRegister, IsWord, Ascend, Down, Up, word_addresses, addresses_of, is_distinct}
-use Rattle.lx_machine.specs.Laws.{CsrRan, Acknowledges, asked_word, written, buffered, IsStorageOver, RegisterRan, fields_of, last_trace}
+use Rattle.lx_machine.specs.Laws.{CsrRan, asked_word, written, buffered, RegisterRan, fields_of, last_trace}
 use Rattle.lx_machine.proofs.Given.{at_given, register_row, Among}
 use Rattle.lx_machine.proofs.Numbers.{laid_all, laid_whole, laid_below, Lies}
-use Rattle.lx_machine.proofs.Asked.{Reaches, address_is, target_is, we_is}
-use Rattle.lx_machine.proofs.Access.{Known, known, taken_bus, the_word, idle_again, answers_all, storage_law, each_map, each_both, last_acknowledges}
+use Rattle.lx_machine.proofs.Asked.{address_is, target_is, we_is}
+use Rattle.lx_machine.proofs.Access.{Known, known, the_word, idle_again, storage_law, each_map, each_both, last_acknowledges}
 
 -- ---- tests
 
@@ -150,10 +150,11 @@ other_word w u ws h e =
 
 pub words_found : (a : ℕ) (ws : List CsrWord) → Ascend a ws → Found ws ws
 words_found a [] h = tt
-words_found a (w ∷ ws) h =
-    (ap (λ z. cond z (Some w) (word_at ws w.addr)) (eq-eqb w.addr w.addr refl),
-    each_both (λ (u : CsrWord). w.addr + 1 ≤ u.addr) (λ u. word_at ws u.addr ≡ Some u) (λ u. word_at (w ∷ ws) u.addr ≡ Some u) ws
-    (λ u k e. other_word w u ws k e) (later_words (w.addr + 1) ws h.1) (words_found (w.addr + 1) ws h.1))
+words_found a (w ∷ ws) h = (
+  ap (λ z. cond z (Some w) (word_at ws w.addr)) (eq-eqb w.addr w.addr refl),
+  each_both (λ (u : CsrWord). w.addr + 1 ≤ u.addr) (λ u. word_at ws u.addr ≡ Some u) (λ u. word_at (w ∷ ws) u.addr ≡ Some u) ws
+      (λ u k e. other_word w u ws k e) (later_words (w.addr + 1) ws h.1) (words_found (w.addr + 1) ws h.1),
+)
 
 abbrev pub is_end : List CsrWord → Bool
 is_end [] = true
@@ -292,9 +293,10 @@ some_inside y false r a i w e = absurd cc
 
 kind_below : (y : System) (b : Bus) (v : Values) (k : ℕ) (r : Register) (kd : Kind) → IsRegister y r → IsBelow r.size b k → (storage_of y b v k r kd < 2 ^ r.size) × (buffer_of y b v k r kd < 2 ^ r.size)
 kind_below y b v k r (Storage s) i h =
-    let inside : (w : CsrWord) → written_word y b v r ≡ Some w → w.low + w.len ≤ r.size = some_inside y (csr_writes y b v) r (address y v) i.words in
-    (written_below s.atomic (is_last_of y v r) (device_next s.device r.size v (b.storage k)) (b.buffer k) r.size (written_word y b v r) (v (At y.port.dat_w)) (device_below s.device r.size v (b.storage k) h.storage) h.buffer inside,
-    buffered_below s.atomic (is_last_of y v r) (b.buffer k) r.size (written_word y b v r) (v (At y.port.dat_w)) h.buffer inside)
+    let inside : (w : CsrWord) → written_word y b v r ≡ Some w → w.low + w.len ≤ r.size = some_inside y (csr_writes y b v) r (address y v) i.words in (
+      written_below s.atomic (is_last_of y v r) (device_next s.device r.size v (b.storage k)) (b.buffer k) r.size (written_word y b v r) (v (At y.port.dat_w)) (device_below s.device r.size v (b.storage k) h.storage) h.buffer inside,
+      buffered_below s.atomic (is_last_of y v r) (b.buffer k) r.size (written_word y b v r) (v (At y.port.dat_w)) h.buffer inside,
+    )
 kind_below y b v k r (Status status we) i h = (h.storage, h.buffer)
 kind_below y b v k r (Raw to re we from) i h = (h.storage, h.buffer)
 kind_below y b v k r (EventStatus m) i h = (h.storage, h.buffer)
@@ -454,13 +456,14 @@ write_law y k v r s ts new h kd nd = write_by y k v r s ts new s.atomic h kd nd 
 
 -- ---- what the description sees
 
-shown_rows : (y : System) (k : ℕ) (r : Register) (s : StorageParts) (h : Shown) (g : Given) → r.kind ≡ Storage s → s.shown ≡ Some h → Among g (gives_shown k (Some h)) → Among g (gives_kind y k r r.kind)
+pub shown_rows : (y : System) (k : ℕ) (r : Register) (s : StorageParts) (h : Shown) (g : Given) → r.kind ≡ Storage s → s.shown ≡ Some h → Among g (gives_shown k (Some h)) → Among g (gives_kind y k r r.kind)
 shown_rows y k r s h g kd e m =
     subst (λ (d : Kind). Among g (gives_kind y k r d)) (sym kd) (subst (λ (o : Option Shown). Among g (gives_shown k o)) (sym e) m)
 
 pub shown_law : (y : System) → IsSound y → (st : State) (inputs v : Values) → IsSystemSettled y st inputs v
     → (k : ℕ) (r : Register) (s : StorageParts) (h : Shown) → register y k ≡ Some r → r.kind ≡ Storage s → s.shown ≡ Some h
     → (v (At h.storage) ≡ pos (st.bus.storage k)) × (v (At h.re) ≡ flag (st.bus.strobe k))
-shown_law y sound st inputs v p k r s h e kd sh =
-    (at_given y st inputs v _ p (register_row y _ k r sound e (shown_rows y k r s h _ kd sh (inl refl))),
-    at_given y st inputs v _ p (register_row y _ k r sound e (shown_rows y k r s h _ kd sh (inr (inl refl)))))
+shown_law y sound st inputs v p k r s h e kd sh = (
+  at_given y st inputs v _ p (register_row y _ k r sound e (shown_rows y k r s h _ kd sh (inl refl))),
+  at_given y st inputs v _ p (register_row y _ k r sound e (shown_rows y k r s h _ kd sh (inr (inl refl)))),
+)

@@ -1,15 +1,14 @@
 -- What the bus does at the two edges of an access.
-use Rattle.std.proofs.Common.{◌≡◌, ℕ, ℤ, pos, Bool, true, false, List, [], ◌∷◌, Option, Some, None, ◌+◌, ◌*◌, ◌/◌, ◌||◌, ◌&&◌, cond, not, refl, sym, ◌∙◌, ap, subst, nat_eq, eq-eqb, is_some, zero, suc}
-use Rattle.std.proofs.lemmas.Bool.{or_parts}
-use Rattle.lx_circuit.specs.Places.{Values, At}
+use Rattle.std.proofs.Common.{◌≡◌, ℕ, ℤ, Bool, true, false, List, [], ◌∷◌, Option, Some, None, ◌*◌, ◌/◌, ◌&&◌, cond, not, refl, sym, ◌∙◌, ap, eq-eqb}
+use Rattle.lx_circuit.specs.Places.{Values}
 use Rattle.lx_circuit.specs.Values.{flag, is_zero, count_of}
 use Rattle.lx_circuit.specs.Circuit.{Step, is_reset, domain_at}
-use Rattle.lx_machine.specs.Map.{CsrWord, Register}
+use Rattle.lx_machine.specs.Map.{Register}
 use Rattle.lx_machine.specs.System.{System, Target, Csr}
-use Rattle.lx_machine.specs.Bus.{Bus, Phase, Idle, Answering, is_on, is_csr, is_user, in_reset, asks, offers, writes, reads, csr_writes, csr_reads, written_word, address, selected, target, target_of, place_of, word_at, answers, phase_next, offer_word, edge, is_last, is_last_of}
+use Rattle.lx_machine.specs.Bus.{Bus, Phase, Idle, Answering, is_on, is_csr, is_user, asks, offers, writes, reads, csr_writes, csr_reads, written_word, address, selected, target, target_of, place_of, word_at, answers, offer_word, edge, is_last, is_last_of}
 use Rattle.lx_machine.specs.Views.{State, IsSystemSettled, Runs, system_next}
 use Rattle.lx_machine.specs.Access.{Each, Ask, Asks}
-use Rattle.lx_machine.specs.Sound.{IsInput, AreInputs, IsSound}
+use Rattle.lx_machine.specs.Sound.{AreInputs, IsSound}
 use Rattle.lx_machine.specs.Laws.{asked_word}
 use Rattle.lx_machine.proofs.Given.{at_input}
 

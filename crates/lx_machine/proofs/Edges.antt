@@ -1,11 +1,11 @@
 -- An access has two edges of the bus, and between them nothing of the bus changes.
-use Rattle.std.proofs.Common.{◌≡◌, ℕ, Bool, true, false, List, [], ◌∷◌, cond, refl, sym, ◌∙◌, ap, subst, zero, suc}
+use Rattle.std.proofs.Common.{◌≡◌, Bool, true, false, List, [], ◌∷◌, cond, refl, sym, ◌∙◌, ap, subst}
 use Rattle.lx_circuit.specs.Places.{Values}
 use Rattle.lx_circuit.specs.Circuit.{Step, next_state}
 use Rattle.lx_machine.specs.System.{System}
 use Rattle.lx_machine.specs.Bus.{Bus, in_reset, edge, moved}
-use Rattle.lx_machine.specs.Views.{State, IsSystemSettled, Runs, system_next}
-use Rattle.lx_machine.specs.Access.{Each, Either, Rises, until_edge, after_edge, last_of, no_values}
+use Rattle.lx_machine.specs.Views.{State, IsSystemSettled, Runs}
+use Rattle.lx_machine.specs.Access.{Each, Either, Rises, until_edge, after_edge, last_of}
 
 -- settled where the bus has this state
 abbrev pub SettledAt : System → Bus → Values → Type 0

@@ -1,12 +1,12 @@
 -- What a settled valuation has at inputs, and at the signals that the bus gives.
-use Rattle.std.proofs.Common.{◌≡◌, ℕ, ℤ, Bool, true, false, List, [], ◌∷◌, ◌++◌, Option, Some, None, ◌+◌, ◌⊎◌, inl, inr, ◌||◌, ◌&&◌, cond, not, refl, sym, ◌∙◌, ap, subst, nat_eq, zero, suc, eq-eqb, slice_get, zero-add, arith}
+use Rattle.std.proofs.Common.{◌≡◌, ℕ, Bool, true, false, List, [], ◌∷◌, ◌++◌, Option, Some, ◌+◌, ◌⊎◌, inl, inr, ◌||◌, ◌&&◌, cond, not, refl, sym, ◌∙◌, ap, subst, nat_eq, zero, suc, eq-eqb, slice_get, zero-add, arith}
 use Rattle.std.proofs.lemmas.Bool.{eqb-true, or_parts}
-use Rattle.lx_circuit.specs.Places.{Place, Values, At}
-use Rattle.lx_circuit.specs.Circuit.{by_role, role, is_among, Input, Role}
+use Rattle.lx_circuit.specs.Places.{Values, At}
+use Rattle.lx_circuit.specs.Circuit.{by_role, role, is_among, Role}
 use Rattle.lx_circuit.proofs.Cases.{by_test}
 use Rattle.lx_machine.specs.Map.{Register}
 use Rattle.lx_machine.specs.System.{System}
-use Rattle.lx_machine.specs.Bus.{Bus, register}
+use Rattle.lx_machine.specs.Bus.{register}
 use Rattle.lx_machine.specs.Gives.{Given, given_at, all_given, gives_port, gives_kind, gives_registers, gives_managers, gives_targets}
 use Rattle.lx_machine.specs.Views.{State, IsSystemSettled, given_or}
 use Rattle.lx_machine.specs.Sound.{IsInput, IsSound, signals_of, is_distinct}

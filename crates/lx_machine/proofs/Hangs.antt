@@ -1,14 +1,14 @@
 -- What the bus gives hangs on what its row reads.
 use Rattle.std.proofs.Common.{◌≡◌, ℕ, ℤ, pos, Bool, true, false, List, [], ◌∷◌, ◌++◌, Option, Some, None, ◌+◌, ◌*◌, ◌^◌, ◌||◌, ◌&&◌, cond, not, refl, sym, ◌∙◌, ap, nat_eq, zero, suc, eq-eqb, is_some, slice_index_or}
 use Rattle.lx_num.specs.Ints.{modulo}
-use Rattle.lx_circuit.specs.Places.{Place, Values, At, Word, Kept}
+use Rattle.lx_circuit.specs.Places.{Values, At}
 use Rattle.lx_circuit.specs.Values.{flag, is_zero, count_of}
 use Rattle.lx_circuit.specs.Circuit.{is_among, is_reset, domain_at}
 use Rattle.std.proofs.lemmas.Bool.{or_left, or_right}
-use Rattle.lx_machine.specs.Map.{CsrWord, FieldSignal, Shown, StorageParts, Kind, Storage, Status, Raw, EventStatus, EventPending, Register}
-use Rattle.lx_machine.specs.System.{System, Source, SourceKind, Pulse, Rising, Falling, Level, Manager, Slave, Store, Target, Csr, Memory, User, Null, Region}
-use Rattle.lx_machine.specs.Bus.{Bus, Phase, is_on, bit_of, number_of, region_at, null_region, place_of, target_of, address, selected, target, word_at, is_csr, is_user, answers, in_reset, csr_writes, csr_reads, written_word, status_of, pending_of, marks, clears, clears_in, register, manager_at}
-use Rattle.lx_machine.specs.Gives.{Given, gives, reset_signal, offer_reads, gives_fields, gives_shown, is_written, is_read, gives_kind, gives_registers, status_reads, pending_reads, gives_source, gives_sources, interrupts, pendings, gives_manager, gives_managers, gives_target, gives_targets, ack_of, err_of, dat_r_of, of_user, of_users, is_number, line, lines_read, gives_port, all_given, given_at}
+use Rattle.lx_machine.specs.Map.{CsrWord, FieldSignal, Shown, Kind, Storage, Status, Raw, EventStatus, EventPending, Register}
+use Rattle.lx_machine.specs.System.{System, Source, SourceKind, Pulse, Rising, Falling, Level, Manager, Slave, Target, Csr, Memory, User, Null, Region}
+use Rattle.lx_machine.specs.Bus.{Bus, Phase, is_on, bit_of, number_of, null_region, place_of, target_of, address, selected, target, word_at, is_csr, is_user, answers, in_reset, csr_writes, csr_reads, status_of, pending_of, marks, clears_in, register, manager_at}
+use Rattle.lx_machine.specs.Gives.{Given, reset_signal, offer_reads, gives_fields, gives_shown, is_written, is_read, gives_kind, gives_registers, status_reads, pending_reads, gives_source, gives_sources, interrupts, pendings, gives_manager, gives_managers, gives_target, gives_targets, ack_of, err_of, dat_r_of, of_user, of_users, is_number, line, lines_read, gives_port, all_given, given_at}
 use Rattle.lx_machine.specs.Access.{Each}
 
 -- ---- agreement on a list of signals
@@ -118,9 +118,10 @@ read_same y b v w r h =
 kind_hangs : (y : System) (k : ℕ) (r : Register) (kd : Kind) → Each Hangs (gives_kind y k r kd)
 kind_hangs y k r (Storage s) = shown_hangs k s.shown
 kind_hangs y k r (Status status we) = ((λ b v w h. refl), tt)
-kind_hangs y k r (Raw to re we given) =
-    ((λ b v w h. ap (λ z. pos (modulo z (2 ^ r.size))) h.0),
-    ((λ b v w h. ap (λ z. flag z) (written_same y b v w r h)), ((λ b v w h. ap (λ z. flag z) (read_same y b v w r h)), tt)))
+kind_hangs y k r (Raw to re we given) = (
+  (λ b v w h. ap (λ z. pos (modulo z (2 ^ r.size))) h.0),
+  ((λ b v w h. ap (λ z. flag z) (written_same y b v w r h)), ((λ b v w h. ap (λ z. flag z) (read_same y b v w r h)), tt)),
+)
 kind_hangs y k r (EventStatus m) = tt
 kind_hangs y k r (EventPending m) = tt
 
@@ -150,10 +151,13 @@ clears_in_same y b v w (Some r) i h =
     ∙ ap (λ z. marks (cond (csr_writes y b w) (word_at r.words (address y w)) None) z i) h.0)
 
 source_hangs : (y : System) (m i : ℕ) (s : Source) → Each Hangs (gives_source y m i s)
-source_hangs y m i s =
-    ((λ b v w h. ap (λ z. flag z) (status_same s s.kind v w h)),
-    ((λ b v w h. ap (λ z. flag z) (pending_same s s.kind (b.pend m i) v w h)),
-    ((λ b v w h. ap (λ z. flag z) (clears_in_same y b v w (register y (manager_at y m).pending) i h)), tt)))
+source_hangs y m i s = (
+  (λ b v w h. ap (λ z. flag z) (status_same s s.kind v w h)),
+  (
+    (λ b v w h. ap (λ z. flag z) (pending_same s s.kind (b.pend m i) v w h)),
+    ((λ b v w h. ap (λ z. flag z) (clears_in_same y b v w (register y (manager_at y m).pending) i h)), tt),
+  ),
+)
 
 sources_hang : (y : System) (m i : ℕ) (ss : List Source) → Each Hangs (gives_sources y m i ss)
 sources_hang y m i [] = tt
@@ -177,12 +181,21 @@ managers_hang y m (g ∷ gs) = each_append Hangs (gives_manager y m g) (gives_ma
 target_hangs : (y : System) (t : ℕ) (tg : Target) → Each Hangs (gives_target y t tg)
 target_hangs y t Csr = tt
 target_hangs y t (Memory s) = tt
-target_hangs y t (User s) =
-    ((λ b v w h. h.0), ((λ b v w h. h.0), ((λ b v w h. h.0),
-    ((λ b v w h.
-    ap (λ (z : ℤ). cond (nat_eq (place_of y (4 * count_of z)) t) (v (At y.port.cyc)) (pos 0)) h.0
-    ∙ ap (λ z. cond (nat_eq (selected y w) t) z (pos 0)) h.1.0),
-    ((λ b v w h. h.0), ((λ b v w h. h.0), tt))))))
+target_hangs y t (User s) = (
+  (λ b v w h. h.0),
+  (
+    (λ b v w h. h.0),
+    (
+      (λ b v w h. h.0),
+      (
+        (λ b v w h.
+            ap (λ (z : ℤ). cond (nat_eq (place_of y (4 * count_of z)) t) (v (At y.port.cyc)) (pos 0)) h.0
+            ∙ ap (λ z. cond (nat_eq (selected y w) t) z (pos 0)) h.1.0),
+        ((λ b v w h. h.0), ((λ b v w h. h.0), tt)),
+      ),
+    ),
+  ),
+)
 target_hangs y t Null = tt
 
 targets_hang : (y : System) (t : ℕ) (rs : List Region) → Each Hangs (gives_targets y t rs)
@@ -236,17 +249,22 @@ number_same f g (suc n) h =
     ap (λ z. z + cond (f n) (2 ^ n) 0) (number_same f g n h) ∙ ap (λ z. number_of g n + cond z (2 ^ n) 0) (h n)
 
 port_hangs : (y : System) → Each Hangs (gives_port y)
-port_hangs y =
-    ((λ b v w h.
-    ap (λ (z : ℤ). ack_of b.phase v (place_of y (4 * count_of z)) (target_of y (4 * count_of z))) h.0
-    ∙ ack_same b.phase v w (selected y w) (target y w) (users_agree (λ s. s.ack) v w y.regions (selected y w) h.1)),
-    ((λ b v w h.
-    ap (λ (z : ℤ). err_of b.phase v (place_of y (4 * count_of z)) (target_of y (4 * count_of z))) h.0
-    ∙ err_same b.phase v w (selected y w) (target y w) (users_agree (λ s. s.err) v w y.regions (selected y w) h.1)),
-    ((λ b v w h.
-    ap (λ (z : ℤ). dat_r_of b.phase v (place_of y (4 * count_of z)) (target_of y (4 * count_of z))) h.0
-    ∙ dat_r_same b.phase v w (selected y w) (target y w) (users_agree (λ s. s.dat_r) v w y.regions (selected y w) h.1)),
-    ((λ b v w h. ap (λ (n : ℕ). pos n) (number_same (λ n. line v y.managers n) (λ n. line w y.managers n) 32 (λ n. line_same v w y.managers n h))), tt))))
+port_hangs y = (
+  (λ b v w h.
+      ap (λ (z : ℤ). ack_of b.phase v (place_of y (4 * count_of z)) (target_of y (4 * count_of z))) h.0
+      ∙ ack_same b.phase v w (selected y w) (target y w) (users_agree (λ s. s.ack) v w y.regions (selected y w) h.1)),
+  (
+    (λ b v w h.
+        ap (λ (z : ℤ). err_of b.phase v (place_of y (4 * count_of z)) (target_of y (4 * count_of z))) h.0
+        ∙ err_same b.phase v w (selected y w) (target y w) (users_agree (λ s. s.err) v w y.regions (selected y w) h.1)),
+    (
+      (λ b v w h.
+          ap (λ (z : ℤ). dat_r_of b.phase v (place_of y (4 * count_of z)) (target_of y (4 * count_of z))) h.0
+          ∙ dat_r_same b.phase v w (selected y w) (target y w) (users_agree (λ s. s.dat_r) v w y.regions (selected y w) h.1)),
+      ((λ b v w h. ap (λ (n : ℕ). pos n) (number_same (λ n. line v y.managers n) (λ n. line w y.managers n) 32 (λ n. line_same v w y.managers n h))), tt),
+    ),
+  ),
+)
 
 pub all_hang : (y : System) → Each Hangs (all_given y)
 all_hang y =

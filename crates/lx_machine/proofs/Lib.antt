@@ -8,5 +8,6 @@ pub mod Maps
 pub mod Numbers
 pub mod Others
 pub mod Settle
+pub mod Strobes
 pub mod Tiny
 pub mod Views

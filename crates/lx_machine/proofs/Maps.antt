@@ -1,17 +1,17 @@
 -- The map of banks that fit: words without gaps, at addresses that rise.
-use Rattle.std.proofs.Common.{◌≡◌, ℕ, Bool, true, false, List, [], ◌∷◌, ◌++◌, ◌+◌, ◌-◌, ◌*◌, ◌/◌, ◌%◌, ◌<◌, ◌≤◌, ◌⊎◌, inl, inr, ◌||◌, ◌&&◌, cond, not, refl, sym, ◌∙◌, ap, subst, append_assoc, nat_eq, nat_le, nat_lt, zero, suc, arith}
+use Rattle.std.proofs.Common.{◌≡◌, ℕ, Bool, true, false, List, [], ◌∷◌, ◌++◌, ◌+◌, ◌-◌, ◌*◌, ◌/◌, ◌<◌, ◌≤◌, ◌⊎◌, inl, inr, ◌||◌, ◌&&◌, cond, not, refl, sym, ◌∙◌, ap, subst, append_assoc, nat_le, nat_lt, zero, suc, arith}
 use Rattle.std.specs.Prelude.{min, slice_index_or}
 use Rattle.std.proofs.Math.Nat.{min-eq_left, min-eq_right, min-le_left}
 use Rattle.std.proofs.lemmas.Nat.{div-add-mod', mod_below, le-div, mul-le, div-mul-add}
 use Rattle.std.proofs.lemmas.Bool.{ne_eqb, le-leb, lt-ltb, leb-true, leb-false}
 use Rattle.lx_circuit.specs.Circuit.{is_among}
 use Rattle.lx_circuit.proofs.Cases.{by_test}
-use Rattle.lx_machine.specs.Map.{CsrOptions, CsrWord, Declared, Bank, Kind, Register, word_count, low_bit, word_of, words_from, words_of, bank_map, map_of}
-use Rattle.lx_machine.specs.System.{System, Region, Target, Csr}
+use Rattle.lx_machine.specs.Map.{CsrOptions, Declared, Bank, Kind, Register, word_count, low_bit, word_of, words_from, words_of, bank_map, map_of}
+use Rattle.lx_machine.specs.System.{System, Region, Csr}
 use Rattle.lx_machine.specs.Bus.{target_of, place_in, null_region}
 use Rattle.lx_machine.specs.Access.{Each}
 use Rattle.lx_machine.specs.Sound.{IsWord, IsRegister, Down, Up, Ascend, word_addresses, addresses_of, is_distinct}
-use Rattle.lx_machine.specs.Maps.{OptionsFit, BankFits, BanksFit, bank_words, banks_region, MapsBanks, HasMap}
+use Rattle.lx_machine.specs.Maps.{OptionsFit, BanksFit, bank_words, banks_region, MapsBanks, HasMap}
 use Rattle.lx_machine.proofs.Hangs.{each_append}
 
 -- ---- how many words a register has
@@ -74,9 +74,10 @@ down_words o size addr i (suc k) t c e h q =
     let low : low_bit o (word_count o size) i ≡ d * k = low_big o (word_count o size) i k e (omega arith) in
     let rest : d * k < size = few d size (word_count o size) k c (omega arith) in
     let top : d * k + min d (size - d * k) ≡ t =
-    over_min (d * k) d size (omega arith) ∙ (ap (λ (n : ℕ). min size n) (let g : d * k + d ≡ d * suc k = omega arith in g) ∙ sym q) in
-    (ap (λ (n : ℕ). n + min d (size - n)) low ∙ top,
-    down_words o size addr (i + 1) k (low_bit o (word_count o size) i) c e (omega arith) (low ∙ sym (min-eq_right (let g : d * k ≤ size = omega arith in g))))
+    over_min (d * k) d size (omega arith) ∙ (ap (λ (n : ℕ). min size n) (let g : d * k + d ≡ d * suc k = omega arith in g) ∙ sym q) in (
+      ap (λ (n : ℕ). n + min d (size - n)) low ∙ top,
+      down_words o size addr (i + 1) k (low_bit o (word_count o size) i) c e (omega arith) (low ∙ sym (min-eq_right (let g : d * k ≤ size = omega arith in g))),
+    )
 
 up_words : (o : CsrOptions) (size addr i n t : ℕ) → Counts o.data_width size (word_count o size) → o.little ≡ true → n + i ≡ word_count o size
     → t ≡ min size (o.data_width * i) → Up size t (words_from o size addr i n)
@@ -90,12 +91,13 @@ up_words o size addr i (suc k) t c e h q =
     let d = o.data_width in
     let low : low_bit o (word_count o size) i ≡ d * i = low_little o (word_count o size) i e in
     let rest : d * i < size = few d size (word_count o size) i c (omega arith) in
-    let here : t ≡ d * i = q ∙ min-eq_right (let g : d * i ≤ size = omega arith in g) in
-    (low ∙ sym here,
-    up_words o size addr (i + 1) k (t + min d (size - low_bit o (word_count o size) i)) c e (omega arith)
-    (ap (λ (n : ℕ). n + min d (size - low_bit o (word_count o size) i)) here
-    ∙ (ap (λ (n : ℕ). d * i + min d (size - n)) low
-    ∙ (over_min (d * i) d size (omega arith) ∙ ap (λ (n : ℕ). min size n) (let g : d * i + d ≡ d * (i + 1) = omega arith in g)))))
+    let here : t ≡ d * i = q ∙ min-eq_right (let g : d * i ≤ size = omega arith in g) in (
+      low ∙ sym here,
+      up_words o size addr (i + 1) k (t + min d (size - low_bit o (word_count o size) i)) c e (omega arith)
+          (ap (λ (n : ℕ). n + min d (size - low_bit o (word_count o size) i)) here
+          ∙ (ap (λ (n : ℕ). d * i + min d (size - n)) low
+          ∙ (over_min (d * i) d size (omega arith) ∙ ap (λ (n : ℕ). min size n) (let g : d * i + d ≡ d * (i + 1) = omega arith in g)))),
+    )
 
 tiled_by : (o : CsrOptions) (size addr : ℕ) (b : Bool) → Counts o.data_width size (word_count o size) → o.little ≡ b → Down size (words_of o size addr) ⊎ Up size 0 (words_of o size addr)
 tiled_by o size addr true c e =
@@ -177,9 +179,10 @@ register_fits y o more size addr kind f g s l =
 bank_registers : (y : System) (o : CsrOptions) (more : List Region) (addr : ℕ) (ds : List Declared) → OptionsFit o → y.regions ≡ banks_region o ∷ more → Each (λ (d : Declared). 1 ≤ d.size) ds
     → addr ≡ 4 * (addr / 4) → o.base ≤ addr → addr + 4 * bank_words o ds ≤ o.base + 32 * o.paging → Each (IsRegister y) (bank_map o addr ds)
 bank_registers y o more addr [] f g s a h k = tt
-bank_registers y o more addr (d ∷ ds) f g s a h k =
-    (register_fits y o more d.size addr d.kind f g s.0 (record { aligned = a; low = h; high = omega arith }),
-    bank_registers y o more (addr + 4 * word_count o d.size) ds f g s.1 (aligned_more addr (word_count o d.size) a) (omega arith) (omega arith))
+bank_registers y o more addr (d ∷ ds) f g s a h k = (
+  register_fits y o more d.size addr d.kind f g s.0 (record { aligned = a; low = h; high = omega arith }),
+  bank_registers y o more (addr + 4 * word_count o d.size) ds f g s.1 (aligned_more addr (word_count o d.size) a) (omega arith) (omega arith),
+)
 
 bank_aligned : (o : CsrOptions) (n : ℕ) → OptionsFit o → o.base + o.paging * n ≡ 4 * ((o.base + o.paging * n) / 4)
 bank_aligned o n f =
@@ -231,9 +234,10 @@ within_distinct a (x ∷ xs) b w = ap (λ t. not t && is_distinct xs) (not_among
 
 words_within : (o : CsrOptions) (size addr i n : ℕ) → Within (addr + 4 * i) (word_addresses (words_from o size addr i n)) (addr + 4 * (i + n))
 words_within o size addr i zero = omega arith
-words_within o size addr i (suc k) =
-    ((let e : addr + 4 * i ≤ addr + 4 * i = omega arith in e),
-    wider (addr + 4 * (i + 1)) (addr + 4 * i + 1) (word_addresses (words_from o size addr (i + 1) k)) (addr + 4 * ((i + 1) + k)) (addr + 4 * (i + suc k)) (omega arith) (omega arith) (words_within o size addr (i + 1) k))
+words_within o size addr i (suc k) = (
+  (let e : addr + 4 * i ≤ addr + 4 * i = omega arith in e),
+  wider (addr + 4 * (i + 1)) (addr + 4 * i + 1) (word_addresses (words_from o size addr (i + 1) k)) (addr + 4 * ((i + 1) + k)) (addr + 4 * (i + suc k)) (omega arith) (omega arith) (words_within o size addr (i + 1) k),
+)
 
 bank_within : (o : CsrOptions) (addr : ℕ) (ds : List Declared) → Within addr (addresses_of (bank_map o addr ds)) (addr + 4 * bank_words o ds)
 bank_within o addr [] = omega arith
@@ -269,6 +273,6 @@ pub map_law : (y : System) (o : CsrOptions) (banks : List Bank) (more : List Reg
 map_law y o banks more h = record {
   registers = let P : List Register → Type 0 = λ rs. Each (IsRegister y) rs in subst P (sym h.registers) (map_registers y o more 0 banks h.options h.regions h.fit);
   addresses =
-  let P : List Register → Type 0 = λ rs. is_distinct (addresses_of rs) ≡ true in
-  subst P (sym h.registers) (within_distinct (o.base + o.paging * 0) (addresses_of (map_of o banks)) (o.base + 32 * o.paging) (map_within o 0 banks (omega arith) h.fit));
+      let P : List Register → Type 0 = λ rs. is_distinct (addresses_of rs) ≡ true in
+      subst P (sym h.registers) (within_distinct (o.base + o.paging * 0) (addresses_of (map_of o banks)) (o.base + 32 * o.paging) (map_within o 0 banks (omega arith) h.fit));
 }

@@ -1,11 +1,11 @@
 -- What an accessor leaves as it was.
-use Rattle.std.proofs.Common.{◌≡◌, ◌≢◌, ℕ, ℤ, pos, Bool, true, false, List, [], ◌∷◌, Option, Some, None, ◌*◌, ◌/◌, cond, refl, sym, ◌∙◌, ap, is_some, map}
-use Rattle.lx_machine.specs.Map.{CsrWord, Device, StorageParts, Kind, Storage, Register}
-use Rattle.lx_machine.specs.System.{System, Csr}
-use Rattle.lx_machine.specs.Bus.{Bus, Phase, Idle, register, word_at, device_next, target_of}
+use Rattle.std.proofs.Common.{◌≡◌, ◌≢◌, ℕ, Bool, true, false, List, [], ◌∷◌, Option, Some, None, cond, refl, ◌∙◌, ap, is_some}
+use Rattle.lx_machine.specs.Map.{CsrWord, StorageParts, Storage, Register}
+use Rattle.lx_machine.specs.System.{System}
+use Rattle.lx_machine.specs.Bus.{Idle, register, word_at, device_next}
 use Rattle.lx_machine.specs.Views.{State}
-use Rattle.lx_machine.specs.Access.{Each, Ask, AccessRan, AccessorRan, Trace, taking, closing, read_ask, reads_all, writes_all, from_of}
-use Rattle.lx_machine.specs.Sound.{IsSound, IsWord}
+use Rattle.lx_machine.specs.Access.{Each, Ask, AccessRan, AccessorRan, Trace, taking, closing, reads_all, writes_all, from_of}
+use Rattle.lx_machine.specs.Sound.{IsSound}
 use Rattle.lx_machine.specs.Laws.{CsrRan, asked_word, written, buffered, RegisterRan, AsksOf, EachRan, IsKept}
 use Rattle.lx_machine.proofs.Access.{known, idle_again, storage_law, ram_law}
 use Rattle.lx_machine.proofs.Accessors.{register_is, words_apart, words_found, found_at, no_device}

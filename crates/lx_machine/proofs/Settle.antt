@@ -1,15 +1,14 @@
 -- A system with an order of its reads settles in exactly one way: round after round, a place of rank k
 -- stays as it is from round k + 1 on.
-use Rattle.std.proofs.Common.{◌≡◌, ℕ, true, pos, ◌+◌, ◌-◌, ◌<◌, Option, Some, None, List, [], ◌∷◌, refl, sym, ◌∙◌, ap, zero, suc, arith}
+use Rattle.std.proofs.Common.{◌≡◌, ℕ, ◌+◌, ◌-◌, ◌<◌, Option, Some, None, List, [], ◌∷◌, refl, sym, ◌∙◌, ap, zero, suc, arith}
 use Rattle.lx_circuit.specs.Places.{Place, Values, At, Word, Kept}
 use Rattle.lx_circuit.specs.Circuit.{by_place, Step}
 use Rattle.lx_circuit.specs.Reads.{reads_at}
 use Rattle.lx_circuit.proofs.Frames.{AgreeOn}
 use Rattle.lx_circuit.proofs.Settle.{by_place_same}
 use Rattle.lx_machine.specs.System.{System}
-use Rattle.lx_machine.specs.Bus.{Bus}
-use Rattle.lx_machine.specs.Gives.{Given, given_at, all_given}
-use Rattle.lx_machine.specs.Views.{State, given_or, given_place, by_system, IsSystemSettled, is_signal_of, reads_of, system_reads, HasSystemOrder, Runs, system_next}
+use Rattle.lx_machine.specs.Gives.{Given, all_given}
+use Rattle.lx_machine.specs.Views.{State, given_or, given_place, by_system, IsSystemSettled, reads_of, system_reads, HasSystemOrder, Runs, system_next}
 use Rattle.lx_machine.specs.Running.{rounds, values_run, state_run}
 use Rattle.lx_machine.specs.Settling.{SystemSettlesOnce}
 use Rattle.lx_machine.proofs.Hangs.{HangsOr, agree_each, all_hang, given_hangs}

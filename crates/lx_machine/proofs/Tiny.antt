@@ -1,19 +1,17 @@
 -- The small system meets the premises of the laws.
-use Rattle.std.proofs.Common.{◌≡◌, ◌≢◌, ℕ, ℤ, pos, Bool, true, false, List, [], ◌∷◌, Option, Some, None, ◌+◌, ◌*◌, ◌/◌, ◌%◌, ◌^◌, ◌<◌, ◌≤◌, ◌⊎◌, inl, inr, ◌||◌, ◌&&◌, cond, not, refl, sym, ◌∙◌, ap, subst, nat_eq, nat_lt, slice_index_or, lit<, lit≤, map, zero, suc, arith}
+use Rattle.std.proofs.Common.{◌≡◌, ◌≢◌, ℕ, Bool, true, false, List, [], ◌∷◌, Option, Some, ◌<◌, inl, inr, ◌||◌, ◌&&◌, cond, refl, sym, ◌∙◌, ap, subst, nat_eq, nat_lt, slice_index_or, lit<, lit≤, zero, suc, arith}
 use Rattle.std.proofs.lemmas.Bool.{eqb-true, ltb-true, or_cases, both_ways}
-use Rattle.lx_circuit.specs.Places.{Place, Values, At, Word, Kept, is_at}
-use Rattle.lx_circuit.specs.Circuit.{is_among, Step}
-use Rattle.lx_circuit.specs.Reads.{reads_block, reads_at, reads_in}
-use Rattle.lx_circuit.proofs.Cases.{by_test}
+use Rattle.lx_circuit.specs.Places.{Place, At, Word, Kept, is_at}
+use Rattle.lx_circuit.specs.Circuit.{is_among}
+use Rattle.lx_circuit.specs.Reads.{reads_block, reads_in}
 use Rattle.lx_circuit.proofs.Orders.{reads_by_statements}
-use Rattle.lx_machine.specs.Map.{CsrWord, Kind, Storage, Register, words_of}
-use Rattle.lx_machine.specs.System.{System, Csr}
-use Rattle.lx_machine.specs.Bus.{Bus, register, word_at, target_of}
+use Rattle.lx_machine.specs.Map.{CsrWord, Register}
+use Rattle.lx_machine.specs.Bus.{register, word_at}
 use Rattle.lx_machine.specs.Gives.{Given, given_at, all_given}
-use Rattle.lx_machine.specs.Views.{State, first_system, system_reads, reads_of, given_place, is_signal_of, HasSystemOrder, Runs}
-use Rattle.lx_machine.specs.Access.{Each, Ask, Asks, IsAccess, AccessRan, AccessorRan, Trace, from_of, IsIdle, writes_all}
-use Rattle.lx_machine.specs.Running.{rounds, state_run, values_run, inputs_of, ticks, access_steps, after_asks, traces_of}
-use Rattle.lx_machine.specs.Sound.{IsInput, IsWord, IsRegister, IsSound}
+use Rattle.lx_machine.specs.Views.{State, system_reads, reads_of, is_signal_of, HasSystemOrder, Runs}
+use Rattle.lx_machine.specs.Access.{Ask, Asks, IsAccess, AccessorRan, from_of, IsIdle, writes_all}
+use Rattle.lx_machine.specs.Running.{state_run, values_run, inputs_of, access_steps, after_asks, traces_of}
+use Rattle.lx_machine.specs.Sound.{IsSound}
 use Rattle.lx_machine.specs.Laws.{CsrRan, RegisterRan}
 use Rattle.lx_machine.specs.Maps.{MapsBanks}
 use Rattle.lx_machine.proofs.Maps.{map_law}
@@ -117,9 +115,11 @@ tiny_below (Kept j) = lit< tt
 pub tiny_maps : MapsBanks tiny usual tiny_banks more_regions
 tiny_maps = record {
   options = record { some = lit≤ tt; most = lit≤ tt; base = refl; paging = refl };
-  fit =
-  (lit≤ tt, record { number = lit≤ tt; room = lit≤ tt; some = (lit≤ tt, (lit≤ tt, (lit≤ tt, (lit≤ tt, tt)))) },
-  (lit≤ tt, record { number = lit≤ tt; room = lit≤ tt; some = (lit≤ tt, (lit≤ tt, (lit≤ tt, tt))) }, tt));
+  fit = (
+    lit≤ tt,
+    record { number = lit≤ tt; room = lit≤ tt; some = (lit≤ tt, (lit≤ tt, (lit≤ tt, (lit≤ tt, tt)))) },
+    (lit≤ tt, record { number = lit≤ tt; room = lit≤ tt; some = (lit≤ tt, (lit≤ tt, (lit≤ tt, tt))) }, tt),
+  );
   registers = refl;
   regions = refl;
 }

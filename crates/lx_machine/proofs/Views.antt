@@ -1,5 +1,5 @@
 -- Exactly one view of a system after every list of steps, and where its run ended.
-use Rattle.std.proofs.Common.{◌≡◌, List, [], ◌∷◌, refl, sym, subst}
+use Rattle.std.proofs.Common.{◌≡◌, List, [], ◌∷◌, refl, subst}
 use Rattle.std.proofs.Math.Path.{fun_ext}
 use Rattle.lx_circuit.specs.Places.{Place, Values}
 use Rattle.lx_circuit.specs.Circuit.{Step}

@@ -1,13 +1,13 @@
 -- What an accessor does: accesses of the words of a register, one after the other.
-use Rattle.std.specs.Prelude.{◌≡◌, ℕ, ℤ, pos, Bool, true, false, List, [], ◌∷◌, Option, Some, None, ◌+◌, ◌*◌, ◌/◌, ◌%◌, ◌^◌, if◌then◌else◌, map}
+use Rattle.std.specs.Prelude.{◌≡◌, ℕ, ℤ, pos, Bool, true, false, List, [], ◌∷◌, ◌+◌, ◌*◌, ◌/◌, ◌%◌, ◌^◌, if◌then◌else◌, map}
 use Rattle.std.proofs.Common.{zero, suc}
 use Rattle.lx_circuit.specs.Places.{Values, At}
 use Rattle.lx_circuit.specs.Values.{flag, count_of}
 use Rattle.lx_circuit.specs.Circuit.{Step}
 use Rattle.lx_machine.specs.Map.{CsrWord}
 use Rattle.lx_machine.specs.System.{System}
-use Rattle.lx_machine.specs.Bus.{Bus, Phase, Idle, in_reset}
-use Rattle.lx_machine.specs.Views.{State, Runs, IsSystemSettled, first_system}
+use Rattle.lx_machine.specs.Bus.{Idle, in_reset}
+use Rattle.lx_machine.specs.Views.{State, Runs, first_system}
 
 -- P holds of each of them
 abbrev pub Each : {A : Type 0} → (A → Type 0) → List A → Type 0

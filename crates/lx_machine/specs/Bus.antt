@@ -7,8 +7,8 @@ use Rattle.lx_circuit.specs.Statements.{laid_over}
 use Rattle.lx_circuit.specs.Memories.{laid_parts}
 use Rattle.lx_circuit.specs.Circuit.{is_reset, domain_at}
 use Rattle.lx_circuit.specs.Places.{Values, At}
-use Rattle.lx_machine.specs.Map.{CsrWord, Device, StorageParts, Kind, Storage, Status, Raw, EventStatus, EventPending, Register}
-use Rattle.lx_machine.specs.System.{System, Port, Source, SourceKind, Pulse, Rising, Falling, Level, Manager, Slave, Store, Target, Csr, Memory, User, Null, Region}
+use Rattle.lx_machine.specs.Map.{CsrWord, Device, Kind, Storage, Status, Raw, EventStatus, EventPending, Register}
+use Rattle.lx_machine.specs.System.{System, Source, SourceKind, Pulse, Rising, Falling, Level, Manager, Store, Target, Csr, Memory, User, Null, Region}
 
 abbrev pub is_on : Values → ℕ → Bool
 is_on v x = not (is_zero (v (At x)))

@@ -1,13 +1,12 @@
 -- The signals that the bus gives, each with its value and the signals that it reads in the same moment.
-use Rattle.std.specs.Prelude.{ℕ, ℤ, pos, Bool, false, List, [], ◌∷◌, ◌++◌, Option, Some, None, ◌+◌, ◌^◌, nat_eq, not, ◌&&◌, ◌||◌, if◌then◌else◌, is_some, map, flat_map}
-use Rattle.std.proofs.Common.{zero, suc}
+use Rattle.std.specs.Prelude.{ℕ, ℤ, pos, Bool, false, List, [], ◌∷◌, ◌++◌, Option, Some, None, ◌+◌, ◌^◌, nat_eq, ◌&&◌, ◌||◌, if◌then◌else◌, is_some}
 use Rattle.lx_num.specs.Ints.{modulo, field_of}
 use Rattle.lx_circuit.specs.Values.{flag}
 use Rattle.lx_circuit.specs.Circuit.{domain_at}
 use Rattle.lx_circuit.specs.Places.{Values, At}
-use Rattle.lx_machine.specs.Map.{CsrWord, FieldSignal, Shown, StorageParts, Kind, Storage, Status, Raw, EventStatus, EventPending, Register}
-use Rattle.lx_machine.specs.System.{System, Port, Source, SourceKind, Pulse, Rising, Falling, Level, Manager, Slave, Target, Csr, Memory, User, Null, Region}
-use Rattle.lx_machine.specs.Bus.{Bus, Phase, Idle, Answering, is_on, bit_of, number_of, address, selected, target, word_at, answers, writes, reads, csr_writes, csr_reads, written_word, is_csr, clears, status_of, pending_of}
+use Rattle.lx_machine.specs.Map.{FieldSignal, Shown, Kind, Storage, Status, Raw, Register}
+use Rattle.lx_machine.specs.System.{System, Source, SourceKind, Pulse, Level, Manager, Slave, Target, User, Null, Region}
+use Rattle.lx_machine.specs.Bus.{Bus, Phase, Idle, Answering, is_on, bit_of, number_of, address, selected, target, word_at, answers, csr_writes, csr_reads, clears, status_of, pending_of}
 
 -- a signal, its value under the state of the bus and the values of all places, and the signals that it reads
 pub record Given : Type 0 where

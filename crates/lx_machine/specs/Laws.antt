@@ -4,11 +4,11 @@ use Rattle.lx_num.specs.Ints.{modulo, field_of}
 use Rattle.lx_circuit.specs.Places.{Values, At}
 use Rattle.lx_circuit.specs.Values.{flag}
 use Rattle.lx_circuit.specs.Statements.{laid_over}
-use Rattle.lx_machine.specs.Map.{CsrWord, Device, Shown, StorageParts, Kind, Storage, Status, Raw, EventStatus, EventPending, Register}
-use Rattle.lx_machine.specs.System.{System, Source, Csr}
-use Rattle.lx_machine.specs.Bus.{Bus, Phase, Idle, is_on, bit_of, register, manager_at, source_at, target_of, word_at, is_last, fires, pend_next, value_of, device_next}
+use Rattle.lx_machine.specs.Map.{CsrWord, Shown, StorageParts, Kind, Storage, Status, Raw, Register}
+use Rattle.lx_machine.specs.System.{System, Csr}
+use Rattle.lx_machine.specs.Bus.{Bus, Idle, is_on, bit_of, register, manager_at, source_at, target_of, word_at, is_last, fires, pend_next, value_of, device_next}
 use Rattle.lx_machine.specs.Views.{State, IsSystemSettled}
-use Rattle.lx_machine.specs.Access.{Ask, AccessRan, AccessorRan, Trace, Each, until_edge, after_edge, taking, closing, read_ask, write_ask, reads_all, writes_all, result_of, word_read, from_of, IsIdle}
+use Rattle.lx_machine.specs.Access.{Ask, AccessRan, AccessorRan, Trace, Each, until_edge, after_edge, taking, closing, write_ask, reads_all, writes_all, result_of, from_of, IsIdle}
 use Rattle.lx_machine.specs.Sound.{IsSound}
 
 -- an access of a register's region that ran from an idle bus in a system that keeps to the rules
@@ -72,6 +72,18 @@ pub record IsLaidLaw : Type 0 where
 abbrev pub IsStorageLaw : Type 0
 IsStorageLaw = (y : System) (q : Ask) (t : Trace) (new : State) → CsrRan y q t new
     → (k : ℕ) (r : Register) (s : StorageParts) → register y k ≡ Some r → r.kind ≡ Storage s → IsStorageOver y s r q t new k
+
+-- ---- strobes
+
+-- After the taking edge, up to the last step, `re` of a storage is 1 exactly where its last word was
+-- written, and `we` of a status exactly where its last word was read.
+pub record IsStrobeLaw : Type 0 where
+  pub storage : (y : System) (q : Ask) (t : Trace) (new : State) → CsrRan y q t new
+      → (k : ℕ) (r : Register) (s : StorageParts) (h : Shown) → register y k ≡ Some r → r.kind ≡ Storage s → s.shown ≡ Some h
+      → Each (λ v. v (At h.re) ≡ flag (q.writes && is_last r.words q.addr)) (after_edge y t.steps t.values)
+  pub status : (y : System) (q : Ask) (t : Trace) (new : State) → CsrRan y q t new
+      → (k : ℕ) (r : Register) (status we : ℕ) → register y k ≡ Some r → r.kind ≡ Status status we
+      → Each (λ v. v (At we) ≡ flag (not q.writes && is_last r.words q.addr)) (after_edge y t.steps t.values)
 
 -- ---- events
 

@@ -1,6 +1,6 @@
 -- The map of any banks that fit meets what the laws of accessors ask of a system's registers.
 use Rattle.std.specs.Prelude.{◌≡◌, ℕ, true, List, [], ◌∷◌, ◌+◌, ◌*◌, ◌/◌, ◌≤◌}
-use Rattle.lx_machine.specs.Map.{CsrOptions, Declared, Bank, Register, word_count, map_of}
+use Rattle.lx_machine.specs.Map.{CsrOptions, Declared, Bank, word_count, map_of}
 use Rattle.lx_machine.specs.System.{System, Region, Csr}
 use Rattle.lx_machine.specs.Access.{Each}
 use Rattle.lx_machine.specs.Sound.{IsRegister, addresses_of, is_distinct}

@@ -1,5 +1,5 @@
 -- A system that runs: its values are computed, round after round, so that worked rows are values.
-use Rattle.std.specs.Prelude.{◌≡◌, ℕ, pos, Bool, List, [], ◌∷◌, ◌/◌, ◌<◌, nat_eq, if◌then◌else◌}
+use Rattle.std.specs.Prelude.{ℕ, pos, List, [], ◌∷◌, ◌/◌, ◌<◌, nat_eq, if◌then◌else◌}
 use Rattle.std.proofs.Common.{zero, suc}
 use Rattle.lx_circuit.specs.Places.{Place, Values, At}
 use Rattle.lx_circuit.specs.Values.{flag}

@@ -1,5 +1,5 @@
 -- What a system keeps to, so that its accessors reach their registers.
-use Rattle.std.specs.Prelude.{◌≡◌, ℕ, Bool, true, false, List, [], ◌∷◌, Option, Some, None, ◌+◌, ◌*◌, ◌/◌, ◌≤◌, ◌⊎◌, not, ◌&&◌, ◌++◌}
+use Rattle.std.specs.Prelude.{◌≡◌, ℕ, Bool, true, List, [], ◌∷◌, Option, Some, None, ◌+◌, ◌*◌, ◌/◌, ◌≤◌, ◌⊎◌, not, ◌&&◌, ◌++◌}
 use Rattle.lx_circuit.specs.Circuit.{role, Input, is_among, domain_at}
 use Rattle.lx_machine.specs.Map.{CsrWord, Register}
 use Rattle.lx_machine.specs.System.{System, Csr}

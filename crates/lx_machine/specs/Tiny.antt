@@ -1,13 +1,13 @@
 -- A small system with a register of each kind, an event manager with a source of each kind, a RAM, a ROM
 -- and a user slave.
-use Rattle.std.specs.Prelude.{◌≡◌, ℕ, ℤ, pos, Bool, true, false, List, [], ◌∷◌, Some, None, ◌+◌, slice_index_or, codes}
+use Rattle.std.specs.Prelude.{ℕ, pos, true, false, List, [], ◌∷◌, Some, None, ◌+◌, slice_index_or, codes}
 use Rattle.lx_num.specs.Ints.{unsigned}
-use Rattle.lx_circuit.specs.Places.{Place, Values, At, Word, Kept}
+use Rattle.lx_circuit.specs.Places.{Place, At, Word, Kept}
 use Rattle.lx_circuit.specs.Terms.{Constant, Signal}
 use Rattle.lx_circuit.specs.Statements.{Block, Done, Then, Assign, If, Branch, NoBranch, Whole}
 use Rattle.lx_circuit.specs.Circuit.{Made, Circuit}
-use Rattle.lx_machine.specs.Map.{CsrOptions, Bank, Declared, Device, FieldSignal, Shown, StorageParts, Kind, Storage, Status, Raw, EventStatus, EventPending, Register, map_of}
-use Rattle.lx_machine.specs.System.{System, Port, Source, SourceKind, Pulse, Rising, Falling, Level, Manager, Slave, Store, Csr, Memory, User, Region}
+use Rattle.lx_machine.specs.Map.{CsrOptions, Bank, StorageParts, Storage, Status, Raw, EventStatus, EventPending, map_of}
+use Rattle.lx_machine.specs.System.{System, Port, Source, SourceKind, Pulse, Rising, Falling, Level, Manager, Slave, Csr, Memory, User, Region}
 
 -- a signal of the description, and one that something else gives
 abbrev pub own : ℕ → Made
@@ -99,19 +99,19 @@ tiny_banks =
     record {
       number = 0;
       registers =
-      record { size = 40; kind = Storage plain_parts }
-      ∷ record { size = 40; kind = Storage atomic_parts }
-      ∷ record { size = 8; kind = Status 18 19 }
-      ∷ record { size = 8; kind = Raw 20 21 22 23 }
-      ∷ [];
+          record { size = 40; kind = Storage plain_parts }
+          ∷ record { size = 40; kind = Storage atomic_parts }
+          ∷ record { size = 8; kind = Status 18 19 }
+          ∷ record { size = 8; kind = Raw 20 21 22 23 }
+          ∷ [];
     }
     ∷ record {
       number = 1;
       registers =
-      record { size = 4; kind = EventStatus 0 }
-      ∷ record { size = 4; kind = EventPending 0 }
-      ∷ record { size = 4; kind = Storage enable_parts }
-      ∷ [];
+          record { size = 4; kind = EventStatus 0 }
+          ∷ record { size = 4; kind = EventPending 0 }
+          ∷ record { size = 4; kind = Storage enable_parts }
+          ∷ [];
     }
     ∷ []
 

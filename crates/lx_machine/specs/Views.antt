@@ -1,7 +1,7 @@
 -- What the signals of a system are after any list of steps.
 use Rattle.std.specs.Prelude.{◌≡◌, ℕ, ℤ, Bool, true, false, List, [], ◌∷◌, Option, Some, None, ◌<◌}
 use Rattle.lx_circuit.specs.Places.{Place, Values, At, Word, Kept}
-use Rattle.lx_circuit.specs.Circuit.{Circuit, Step, by_place, next_state, first_state, is_among}
+use Rattle.lx_circuit.specs.Circuit.{Step, by_place, next_state, first_state, is_among}
 use Rattle.lx_circuit.specs.Reads.{reads_at}
 use Rattle.lx_machine.specs.System.{System}
 use Rattle.lx_machine.specs.Bus.{Bus, bus_next, first_bus}

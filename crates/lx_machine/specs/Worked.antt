@@ -1,15 +1,14 @@
 -- Systems that run, worked by hand.
-use Rattle.std.specs.Prelude.{◌≡◌, ℕ, ℤ, pos, Bool, true, false, List, [], ◌∷◌, ◌++◌, Option, Some, None, ◌/◌, nat_eq, if◌then◌else◌, codes, map}
-use Rattle.lx_circuit.specs.Places.{Place, Values, At}
+use Rattle.std.specs.Prelude.{◌≡◌, ℕ, ℤ, pos, Bool, true, false, List, [], ◌∷◌, ◌++◌, Some, None, nat_eq, if◌then◌else◌, codes, map}
+use Rattle.lx_circuit.specs.Places.{Values, At}
 use Rattle.lx_circuit.specs.Statements.{Done}
 use Rattle.lx_circuit.specs.Circuit.{Made, Circuit, Step}
-use Rattle.lx_machine.specs.Map.{CsrWord, CsrOptions, StorageParts, Kind, Storage, EventStatus, EventPending, Register, words_of, map_of}
-use Rattle.lx_machine.specs.System.{System, SourceKind, Pulse, Rising, Falling, Level, Source, Manager}
-use Rattle.lx_machine.specs.Bus.{Bus, Phase, Idle, Answering}
-use Rattle.lx_machine.specs.Views.{State, first_system}
-use Rattle.lx_machine.specs.Access.{Ask, read_ask, write_ask, reads_all, writes_all, result_of}
-use Rattle.lx_machine.specs.Running.{rounds, state_run, inputs_of, ticks, access_steps, after_asks, traces_of}
-use Rattle.lx_machine.specs.Tiny.{own, other, port, port_signals, usual, csr_region, enable_parts, tiny_source, tiny}
+use Rattle.lx_machine.specs.Map.{CsrWord, CsrOptions, StorageParts, Storage, EventStatus, EventPending, words_of, map_of}
+use Rattle.lx_machine.specs.System.{System, SourceKind, Pulse, Rising, Falling, Level}
+use Rattle.lx_machine.specs.Views.{first_system}
+use Rattle.lx_machine.specs.Access.{Ask, reads_all, writes_all, result_of}
+use Rattle.lx_machine.specs.Running.{rounds, state_run, inputs_of, ticks, after_asks, traces_of}
+use Rattle.lx_machine.specs.Tiny.{own, other, port, port_signals, usual, csr_region, enable_parts, tiny_source}
 
 -- ---- words
 
@@ -136,10 +135,10 @@ events kind = record {
   sys = 0;
   port = port;
   registers = map_of usual
-  (record {
-    number = 0;
-    registers = record { size = 1; kind = EventStatus 0 } ∷ record { size = 1; kind = EventPending 0 } ∷ record { size = 1; kind = Storage enable_parts } ∷ [];
-  } ∷ []);
+      (record {
+        number = 0;
+        registers = record { size = 1; kind = EventStatus 0 } ∷ record { size = 1; kind = EventPending 0 } ∷ record { size = 1; kind = Storage enable_parts } ∷ [];
+      } ∷ []);
   managers = record { pending = 1; enable = 2; irq = 11; interrupt = Some 3; sources = tiny_source kind 12 ∷ [] } ∷ [];
   regions = csr_region usual ∷ [];
 }

@@ -1,10 +1,10 @@
 -- The small system, worked by hand: RAM, ROM, a slave, raw registers and statuses; and that it meets every
 -- premise of the laws.
-use Rattle.std.specs.Prelude.{◌≡◌, ℕ, ℤ, pos, Bool, true, false, List, [], ◌∷◌, ◌++◌, Option, Some, None, ◌/◌, ◌%◌, ◌^◌, ◌<◌, nat_eq, if◌then◌else◌, map}
+use Rattle.std.specs.Prelude.{◌≡◌, ℕ, ℤ, pos, List, [], ◌∷◌, ◌++◌, Some, ◌/◌, ◌%◌, ◌^◌, ◌<◌, nat_eq, if◌then◌else◌, map}
 use Rattle.lx_circuit.specs.Places.{Place, Values, At}
 use Rattle.lx_circuit.specs.Circuit.{Step}
-use Rattle.lx_machine.specs.Map.{CsrWord, Kind, Storage, Status, Raw, EventStatus, EventPending, Register, words_of}
-use Rattle.lx_machine.specs.Bus.{Bus, register, manager_at, word_at}
+use Rattle.lx_machine.specs.Map.{CsrWord, Storage, Status, Raw, EventStatus, EventPending, Register, words_of}
+use Rattle.lx_machine.specs.Bus.{register, manager_at, word_at}
 use Rattle.lx_machine.specs.Maps.{MapsBanks}
 use Rattle.lx_machine.specs.Views.{State, first_system, HasSystemOrder}
 use Rattle.lx_machine.specs.Access.{Ask, Trace, reads_all, writes_all, result_of}

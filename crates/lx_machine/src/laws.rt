@@ -1,7 +1,7 @@
 //! The laws of the system machine: settling and views of a system, and what an accessor does on its bus
 //! (Wishbone B4, "Standard single read and write"; LiteX, "CSR" and "Event Manager").
 
-ghost use Rattle.lx_machine.specs.Laws.{IsAnswerLaw, IsAtomicLaw, IsEachLaw, IsLaidLaw, IsOthersLaw, IsPendingLaw, IsRamLaw, IsRawLaw, IsReadLaw, IsShownLaw, IsStorageLaw, IsWriteLaw};
+ghost use Rattle.lx_machine.specs.Laws.{IsAnswerLaw, IsAtomicLaw, IsEachLaw, IsLaidLaw, IsOthersLaw, IsPendingLaw, IsRamLaw, IsRawLaw, IsReadLaw, IsShownLaw, IsStorageLaw, IsStrobeLaw, IsWriteLaw};
 ghost use Rattle.lx_machine.specs.Maps.{IsMapLaw};
 ghost use Rattle.lx_machine.specs.Running.{IsComputedLaw};
 ghost use Rattle.lx_machine.specs.Settling.{IsRunLaw, IsSystemSettlingLaw, IsSystemViewLaw};
@@ -48,6 +48,11 @@ pub fn laid_law()
 /// writes, and nothing else.
 pub fn storage_law()
     ensures { IsStorageLaw }
+{}
+
+/// `re` of a storage is 1 after its last word was written, and `we` of a status after its last word was read.
+pub fn strobe_law()
+    ensures { IsStrobeLaw }
 {}
 
 /// What an access leaves of each pending bit: a trigger wins over a clear, and a clear needs the word that
