@@ -1,10 +1,11 @@
 //! Assigns (IEEE 1364-2005, "Continuous assignments").
 
-ghost use Rattle.std.specs.Prelude.{◌≡◌, [], ◌++◌, ◌<◌, length, flat_map, IfOk, IsTrue, OnOk};
+ghost use Rattle.std.specs.Prelude.{[], ◌++◌, ◌<◌, length, IfOk, IsTrue, OnOk};
 ghost use Rattle.lx_vtree.specs.Modules.{are_assigns_placed};
-ghost use Rattle.lx_emission.specs.Emission.{node_assign, places_from};
+ghost use Rattle.lx_emission.specs.Emission.{node_assign};
 ghost use Rattle.lx_emission.specs.Signals.{signal_assign};
 ghost use Rattle.lx_emit.specs.Lines.{PutAssigns};
+ghost use Rattle.lx_emit.specs.Plans.{assigns_in, nodes_in};
 
 use crate::blocks::put_reset;
 use crate::drives::Drive;
@@ -72,7 +73,7 @@ fn put_nodes(
     assigns: &mut List<Assign>,
 ) -> Result<(), NoMemory>
     requires { IsTrue (are_assigns_placed (length exprs.old) assigns.old) }
-    ensures { OnOk result (PutAssigns exprs.old exprs.new assigns.old assigns.new (flat_map (node_assign sheet.now.design sheet.now.names) (places_from 0 sheet.now.design.exprs))) }
+    ensures { OnOk result (PutAssigns exprs.old exprs.new assigns.old assigns.new (nodes_in sheet.now)) }
 {
     for place in 0..sheet.design.exprs.len() {
         let id = Id {
@@ -92,7 +93,7 @@ fn put_signals(
     assigns: &mut List<Assign>,
 ) -> Result<(), NoMemory>
     requires { IsTrue (are_assigns_placed (length exprs.old) assigns.old) }
-    ensures { OnOk result (PutAssigns exprs.old exprs.new assigns.old assigns.new (flat_map (signal_assign sheet.now.design sheet.now.names) (places_from 0 sheet.now.design.signals))) }
+    ensures { OnOk result (PutAssigns exprs.old exprs.new assigns.old assigns.new (assigns_in sheet.now)) }
 {
     for x in 0..sheet.design.signals.len() {
         put_signal_assign(alloc, exprs, sheet, assigns, SigId(x))?;
@@ -106,7 +107,7 @@ pub fn assigns(
     exprs: &mut Arena<VExpr>,
     sheet: &Sheet,
 ) -> Result<List<Assign>, NoMemory>
-    ensures { IfOk result (λ list. PutAssigns exprs.old exprs.new [] list (flat_map (node_assign sheet.now.design sheet.now.names) (places_from 0 sheet.now.design.exprs) ++ flat_map (signal_assign sheet.now.design sheet.now.names) (places_from 0 sheet.now.design.signals))) }
+    ensures { IfOk result (λ list. PutAssigns exprs.old exprs.new [] list (nodes_in sheet.now ++ assigns_in sheet.now)) }
 {
     let mut assigns = List::new(alloc);
     put_nodes(alloc, exprs, sheet, &mut assigns)?;

@@ -1,6 +1,6 @@
 //! The blocks that drive signals (IEEE 1364-2005, "Structured procedures").
 
-ghost use Rattle.std.specs.Prelude.{◌≡◌, ◌<◌, ◌≤◌, true, false, length, slice_get, IfOk, IsTrue, IfSome};
+ghost use Rattle.std.specs.Prelude.{◌≡◌, ◌<◌, true, false, length, IfOk, IsTrue, IfSome};
 ghost use Rattle.lx_vtext.specs.Tree as tree;
 ghost use Rattle.lx_vtree.specs.Modules as modules;
 ghost use Rattle.lx_vtree.specs.Stmts.{StmtsPlaced};
@@ -8,8 +8,8 @@ ghost use Rattle.lx_fhdl.specs.Below.{all_stmts_below};
 ghost use Rattle.lx_fhdl.specs.Designs as designs;
 ghost use Rattle.lx_fhdl.specs.Lowered.{ArePlain};
 ghost use Rattle.lx_emission.specs.Signals as signals;
-ghost use Rattle.lx_emission.specs.Signals.{reset_block, domain_reset, comb_body, sync_body};
-ghost use Rattle.lx_emit.specs.Plans.{net_in, reset_in};
+ghost use Rattle.lx_emission.specs.Signals.{comb_body, sync_body};
+ghost use Rattle.lx_emit.specs.Plans.{reset_assign_in, reset_block_in, reset_in};
 ghost use Rattle.lx_emit.specs.Puts.{PutBlock, PutStmt};
 ghost use Rattle.lx_emit.specs.Resets.{block_by, reset_stmt};
 ghost use Rattle.lx_emit.specs.Tables.{Put};
@@ -53,7 +53,7 @@ fn put_reset_assign(
 ) -> Result<VStmtId, NoMemory>
     requires placed { StmtsPlaced (length exprs.old) stmts.old }
     requires signal { x.0 < length sheet.now.design.signals }
-    ensures { IfOk result (λ i. PutStmt exprs.old exprs.new stmts.old stmts.new i.place (tree.Assign (tree.Whole (net_in sheet.now x.0)) blocking (reset_in sheet.now x.0))) }
+    ensures { IfOk result (λ i. PutStmt exprs.old exprs.new stmts.old stmts.new i.place (reset_assign_in sheet.now blocking x.0)) }
 {
     stmts.lower();
     let target = VTarget::Whole(net_name(alloc, sheet, x)?);
@@ -114,7 +114,7 @@ pub fn put_combined(
 fn reset_of(sheet: &Sheet, x: SigId, domain: usize) -> Option<SigId>
     requires signal { x.0 < length sheet.now.design.signals }
     requires domain { domain < length sheet.now.design.domains }
-    ensures block { block_by sheet.now.design sheet.now.names x.0 result ≡ reset_block sheet.now.design sheet.now.names x.0 (domain_reset (slice_get sheet.now.design.domains domain)) }
+    ensures block { block_by sheet.now.design sheet.now.names x.0 result ≡ reset_block_in sheet.now x.0 domain }
     ensures there { IfSome result (λ r. r.0 < length sheet.now.design.signals) }
 {
     if sheet.design.signals.at(x.0).reset_less {

@@ -1,8 +1,9 @@
 //! Declarations of nets (IEEE 1364-2005, "Net and variable declarations").
 
-ghost use Rattle.std.specs.Prelude.{◌≡◌, ◌++◌, ◌<◌, length, map, flat_map, IfOk, OnOk};
+ghost use Rattle.std.specs.Prelude.{◌≡◌, ◌++◌, ◌<◌, length, map, IfOk, OnOk};
 ghost use Rattle.lx_vtree.specs.Modules.{decl_of};
-ghost use Rattle.lx_emission.specs.Emission.{decls_of, inner_decl, node_decl, places_from};
+ghost use Rattle.lx_emission.specs.Emission.{decls_of, inner_decl, node_decl};
+ghost use Rattle.lx_emit.specs.Plans.{inner_decls_in, node_decls_in};
 
 use crate::memories::put_decls;
 use crate::nets::{node_wire, signal_net};
@@ -53,7 +54,7 @@ fn put_node(
 // Adds the nets of all signals that are no ports.
 #[tactic(auto, using(crate::proofs::Lines::pieces_next, crate::proofs::Lines::pieces_end))]
 fn put_signals(alloc: Global, sheet: &Sheet, decls: &mut List<Decl>) -> Result<(), NoMemory>
-    ensures { OnOk result (map decl_of decls.new ≡ map decl_of decls.old ++ flat_map (inner_decl sheet.now.design sheet.now.names) (places_from 0 sheet.now.design.signals)) }
+    ensures { OnOk result (map decl_of decls.new ≡ map decl_of decls.old ++ inner_decls_in sheet.now) }
 {
     for x in 0..sheet.design.signals.len() {
         put_signal(alloc, sheet, decls, SigId(x))?;
@@ -64,7 +65,7 @@ fn put_signals(alloc: Global, sheet: &Sheet, decls: &mut List<Decl>) -> Result<(
 // Adds the nets of all operators and slices.
 #[tactic(auto, using(crate::proofs::Lines::pieces_next, crate::proofs::Lines::pieces_end))]
 fn put_nodes(alloc: Global, sheet: &Sheet, decls: &mut List<Decl>) -> Result<(), NoMemory>
-    ensures { OnOk result (map decl_of decls.new ≡ map decl_of decls.old ++ flat_map (node_decl sheet.now.design sheet.now.names) (places_from 0 sheet.now.design.exprs)) }
+    ensures { OnOk result (map decl_of decls.new ≡ map decl_of decls.old ++ node_decls_in sheet.now) }
 {
     for place in 0..sheet.design.exprs.len() {
         let id = Id {

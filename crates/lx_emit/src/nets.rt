@@ -2,11 +2,11 @@
 
 ghost use Rattle.std.specs.Prelude.{◌≡◌, ◌<◌, length, option_map, IfOk};
 ghost use Rattle.lx_vtree.specs.Modules.{literal_of, net_of};
-ghost use Rattle.lx_emission.specs.Naming.{clock_name, node_net};
-ghost use Rattle.lx_emission.specs.Nodes.{node_shape};
+ghost use Rattle.lx_emission.specs.Naming.{clock_name};
 ghost use Rattle.lx_emission.specs.Emission.{wire};
 ghost use Rattle.lx_emission.specs.Signals.{init_of, reset_of_signal, shape_of_signal, signal_net};
 ghost use Rattle.lx_emit.specs.Drives.{drive_of};
+ghost use Rattle.lx_emit.specs.Plans.{node_wire_in};
 
 use crate::blocks::reset_literal;
 use crate::drives::Drive;
@@ -59,7 +59,7 @@ pub fn wire(shape: Shape, name: Word) -> Net
 /// The wire of an operator or slice.
 pub fn node_wire(alloc: Global, sheet: &Sheet, id: ExprId) -> Result<Net, NoMemory>
     requires { id.place < length sheet.now.design.exprs }
-    ensures { IfOk result (λ net. net_of net ≡ wire (node_shape sheet.now.design id.place).signed (node_shape sheet.now.design id.place).bits (node_net sheet.now.design.exprs id.place)) }
+    ensures { IfOk result (λ net. net_of net ≡ node_wire_in sheet.now id.place) }
 {
     let name = node_name(alloc, number_at(sheet, id))?;
     Ok(wire(shape_at(sheet, id), name))

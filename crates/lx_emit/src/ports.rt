@@ -1,11 +1,12 @@
 //! The ports of a module (IEEE 1364-2005, "Modules").
 
-ghost use Rattle.std.specs.Prelude.{◌≡◌, ◌++◌, ◌∷◌, ◌<◌, true, false, length, map, IfOk, IfSome, OnOk};
+ghost use Rattle.std.specs.Prelude.{◌≡◌, ◌++◌, ◌<◌, true, false, length, map, IfOk, IfSome, OnOk};
 ghost use Rattle.lx_vtree.specs.Modules.{port_of};
 ghost use Rattle.lx_fhdl.specs.declared.exprs.SigId.{SigId};
 ghost use Rattle.lx_emission.specs.Naming.{clock_name};
-ghost use Rattle.lx_emission.specs.Emission.{domain_ports, is_input_drive, ports_of, reset_port, signal_port, wire};
+ghost use Rattle.lx_emission.specs.Emission.{domain_ports, is_input_drive, ports_of, signal_port, wire};
 ghost use Rattle.lx_emit.specs.Drives.{drive_of};
+ghost use Rattle.lx_emit.specs.Plans.{domain_ports_in, ios_in};
 
 use crate::drives::Drive;
 use crate::nets::{clock_name, signal_net, wire};
@@ -61,7 +62,7 @@ fn put_domain(
     domain: &Domain,
 ) -> Result<(), NoMemory>
     requires { IfSome domain.now.reset (λ r. r.0 < length sheet.now.design.signals) }
-    ensures { OnOk result (map port_of ports.new ≡ map port_of ports.old ++ record { is_input = true; net = wire false 1 (clock_name domain.now.name) } ∷ reset_port sheet.now.design sheet.now.names domain.now.reset) }
+    ensures { OnOk result (map port_of ports.new ≡ map port_of ports.old ++ domain_ports_in sheet.now domain.now) }
 {
     ports.push(clock_port(alloc, domain)?)?;
     if let Some(reset) = domain.reset {
@@ -82,7 +83,7 @@ fn put_domains(alloc: Global, sheet: &Sheet, ports: &mut List<Port>) -> Result<(
 
 // Adds the ports that a design names.
 fn put_ios(alloc: Global, sheet: &Sheet, ports: &mut List<Port>) -> Result<(), NoMemory>
-    ensures { OnOk result (map port_of ports.new ≡ map port_of ports.old ++ map (λ (x : SigId). signal_port sheet.now.design sheet.now.names x.0) sheet.now.design.ios) }
+    ensures { OnOk result (map port_of ports.new ≡ map port_of ports.old ++ ios_in sheet.now) }
 {
     for x in sheet.design.ios.as_slice() {
         let port = signal_port(alloc, sheet, *x)?;

@@ -1,13 +1,13 @@
 //! Statements (IEEE 1364-2005, "Procedural assignments" and "Conditional statement").
 
-ghost use Rattle.std.specs.Prelude.{◌≡◌, ◌<◌, ◌≤◌, true, false, Some, length, slice_get, IfOk, IsTrue};
+ghost use Rattle.std.specs.Prelude.{◌≡◌, ◌<◌, ◌≤◌, Some, length, slice_get, IfOk, IsTrue};
 ghost use Rattle.lx_vtext.specs.Tree as tree;
 ghost use Rattle.lx_vtree.specs.Stmts.{StmtsPlaced, are_stmts_below};
 ghost use Rattle.lx_fhdl.specs.Designs as designs;
 ghost use Rattle.lx_fhdl.specs.Below.{all_stmts_below};
 ghost use Rattle.lx_fhdl.specs.Lowered.{IsPlain, ArePlain};
 ghost use Rattle.lx_emission.specs.Texts.{covers, block_onto, else_text};
-ghost use Rattle.lx_emit.specs.Plans.{operand_in, stmt_in, target_in};
+ghost use Rattle.lx_emit.specs.Plans.{assign_in, stmt_in, target_in, when_in};
 ghost use Rattle.lx_emit.specs.Drives.{IsPlainTarget};
 ghost use Rattle.lx_emit.specs.Puts.{IsTarget, PutStmt, PutBlock, PutElse, PutStmts, texts_of};
 
@@ -68,7 +68,7 @@ fn put_assign(
     requires target { target.place < length sheet.now.design.targets }
     requires value { value.place < length sheet.now.design.exprs }
     requires plain { IsPlainTarget (designs.target sheet.now.design target.place) }
-    ensures { IfOk result (λ i. PutStmt exprs.old exprs.new stmts.old stmts.new i.place (tree.Assign (target_in sheet.now (slice_get sheet.now.design.targets target.place)) blocking (operand_in sheet.now value.place))) }
+    ensures { IfOk result (λ i. PutStmt exprs.old exprs.new stmts.old stmts.new i.place (assign_in sheet.now blocking target value)) }
 {
     stmts.lower();
     let target = make_target(alloc, sheet, target)?;
@@ -100,7 +100,7 @@ fn put_when(
     requires rest { IsTrue (all_stmts_below bound rest.now) }
     requires plain_body { ArePlain (designs.block sheet.now.design branch.now.body) }
     requires plain_rest { ArePlain (designs.block sheet.now.design rest.now) }
-    ensures { IfOk result (λ i. PutStmt exprs.old exprs.new stmts.old stmts.new i.place (tree.When (operand_in sheet.now branch.now.cond.place) (block_onto (stmt_in sheet.now blocking) branch.now.body tree.EndBlock) (else_text (stmt_in sheet.now blocking) rest.now))) }
+    ensures { IfOk result (λ i. PutStmt exprs.old exprs.new stmts.old stmts.new i.place (when_in sheet.now blocking branch.now rest.now)) }
 {
     let so = put_block(
         alloc,
