@@ -1,10 +1,10 @@
 -- Trees in the arena.
-use Rattle.std.proofs.Common.{ℕ, true, ◌≡◌, ◌<◌, ◌≤◌, ◌++◌, nat_lt, List, [], ◌∷◌, length, refl, sym, ap, ◌∙◌, subst, arith, None, Result, Ok, Err, MatchResult}
+use Rattle.std.proofs.Common.{ℕ, true, ◌≡◌, ◌<◌, ◌≤◌, ◌++◌, nat_lt, List, [], ◌∷◌, length, refl, sym, ap, ◌∙◌, subst, arith, slice_get, Some, None, Result, Ok, Err, MatchResult}
 use Rattle.std.proofs.lemmas.Bool.{ltb-true, lt-ltb}
 use Rattle.lx_text.specs.declared.lists.NoMemory.{NoMemory}
 use Rattle.lx_arena.specs.Lower.{EachLower}
 use Rattle.lx_arena.specs.Folds.{IsLocal, Added}
-use Rattle.lx_arena.proofs.Folds.{added_by, grows_not}
+use Rattle.lx_arena.proofs.Folds.{added_by, fold_at-is, grows_not}
 use Rattle.lx_arena.proofs.Places.{lower_more}
 use Rattle.lx_grammar.specs.declared.grammar.Rule.{Rule}
 use Rattle.lx_grammar.specs.Derives.{Tree, Grown, NoTree, end, token, child, joined, wrap}
@@ -56,6 +56,11 @@ plants_push_token f (part.Node j ∷ ps) x = ap (λ qs. child (f j.place) qs) (p
 pub tree_local : IsLocal below_node node_tree
 unfolding parts_below
 tree_local = record { same = λ f g n node alike low. ap (λ ps. Grown node.rule ps) (plants_same f g n node.parts low alike) }
+
+-- the tree at a place hangs the parts of the node there
+pub tree_node : (nodes : List PyNode) (place : ℕ) (node : PyNode) → EachLower below_node nodes → slice_get nodes place ≡ Some node → tree_at nodes place ≡ node_tree (tree_at nodes) node
+unfolding tree_at
+tree_node nodes place node low at = fold_at-is below_node NoTree node_tree tree_local nodes low place node at
 
 -- a node that is pushed hangs its parts
 tree_added : (old : List PyNode) (node : PyNode) → EachLower below_node (old ++ node ∷ []) → below_node node (length old) ≡ true → Added tree_at node_tree old (old ++ node ∷ []) (length old) node
