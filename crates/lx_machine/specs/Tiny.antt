@@ -153,14 +153,14 @@ tiny = record {
 
 -- ---- an order of its reads
 
--- 0 for what reads nothing
+-- each signal's rank is above those of what it reads
 abbrev pub tiny_ranks : List ℕ
 tiny_ranks =
     0 ∷ 0 ∷ 0 ∷ 0 ∷ 0 ∷ 0 ∷ 3 ∷ 3 ∷ 3 ∷ 3
     ∷ 0
     ∷ 0 ∷ 0 ∷ 0
     ∷ 0 ∷ 0 ∷ 0 ∷ 0
-    ∷ 0 ∷ 0
+    ∷ 0 ∷ 1
     ∷ 1 ∷ 1 ∷ 1 ∷ 0
     ∷ 2
     ∷ 0 ∷ 1 ∷ 1 ∷ 1
