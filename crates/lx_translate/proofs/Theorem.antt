@@ -9,7 +9,6 @@ use Rattle.lx_fhdl.specs.Designs as design
 use Rattle.lx_fhdl.specs.declared.design.Design.{Design}
 use Rattle.lx_emission.specs.Naming.{naming, net}
 use Rattle.lx_write.specs.Writes.{CanBeWritten, Writes}
-use Rattle.lx_write.proofs.Written.{without_memories}
 use Rattle.lx_form.specs.declared.file.File.{File}
 use Rattle.lx_form.specs.Form.{is_form}
 use Rattle.lx_translate.specs.FormDesign.{design_of, design_signal}
@@ -47,7 +46,7 @@ form_can_be_written : (f : File) → IsTrue (is_form f) → CanBeWritten (design
 form_can_be_written f form =
     let o = form_fits f form in
     let can = can_be_emitted f o.signals o.lines in
-    record { keeps = can.keeps; order = can.order; named = can.named; ports = can.ports; memories = can.memories; indices = without_memories (design_of f) (no_memories f) }
+    record { keeps = can.keeps; order = can.order; named = can.named; ports = can.ports; no_memories = no_memories f }
 
 pub translation : IsTranslationLaw
 translation f form = record { can = form_can_be_written f form; gives = λ m w. gives f m form w }
