@@ -9,6 +9,3 @@ pub mod placing;
 pub use numbers::are_distinct;
 pub use origins::are_sized;
 pub use placing::{exhaustion_law, free_law, place};
-
-#[cfg(test)]
-mod tests;

@@ -212,10 +212,9 @@ pub fn place_regions(alloc: Global, wishes: &[RegionWish]) -> Result<List<Region
     requires legal { fixed_faults wishes.now ≡ [] }
     ensures { Places wishes.now result }
 {
-    let spots = spots_of(alloc, wishes)?;
-    let mut filled = spots_of(alloc, wishes)?;
-    match fill(&mut filled) {
-        Ok(()) => Ok(regions_at(alloc, wishes, &filled)?),
+    let mut spots = spots_of(alloc, wishes)?;
+    match fill(&mut spots) {
+        Ok(()) => Ok(regions_at(alloc, wishes, &spots)?),
         Err(at) => Err(Refusal::Fault(exhausted(wishes, &spots, at))),
     }
 }

@@ -1,21 +1,11 @@
 -- Tests, and lists of pieces.
-use Rattle.std.proofs.Common.{◌≡◌, ℕ, Bool, true, false, List, [], ◌∷◌, ◌++◌, ◌||◌, ◌&&◌, cond, refl, ◌∙◌, ap, nat_eq}
+use Rattle.std.proofs.Common.{◌≡◌, ℕ, Bool, true, false, List, [], ◌∷◌, ◌++◌, cond, refl, nat_eq}
 use Rattle.lx_circuit.specs.Statements.{Piece, after_pieces, laid_over}
 
 -- by what a test answers
 pub by_test : {P : Type 0} (b : Bool) → (b ≡ true → P) → (b ≡ false → P) → P
 by_test true f g = f refl
 by_test false f g = g refl
-
-pub or_true_left : (a b : Bool) → a ≡ true → (a || b) ≡ true
-or_true_left a b e = ap (λ z. z || b) e
-
-pub or_true_right : (a b : Bool) → b ≡ true → (a || b) ≡ true
-or_true_right true b e = refl
-or_true_right false b e = e
-
-pub and_true : (a b : Bool) → a ≡ true → b ≡ true → (a && b) ≡ true
-and_true a b e f = ap (λ z. z && b) e ∙ f
 
 pub after_append : (x p : ℕ) (as_ bs : List Piece) → after_pieces x p (as_ ++ bs) ≡ after_pieces x (after_pieces x p as_) bs
 after_append x p [] bs = refl

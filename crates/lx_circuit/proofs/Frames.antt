@@ -1,52 +1,35 @@
 -- What a signal is after statements hangs on what it reads alone.
-use Rattle.std.proofs.Common.{◌≡◌, ℕ, ℤ, pos, Bool, true, false, List, [], ◌∷◌, ◌++◌, ◌||◌, ◌&&◌, ◌-◌, ◌^◌, cond, refl, sym, ◌∙◌, ap, nat_eq, zero, suc, eq-eqb}
-use Rattle.std.proofs.lemmas.Bool.{or_parts}
+use Rattle.std.proofs.Common.{◌≡◌, ℕ, ℤ, Bool, true, false, List, [], ◌∷◌, ◌++◌, ◌||◌, ◌&&◌, ◌^◌, cond, refl, sym, ◌∙◌, ap, nat_eq, zero, suc}
+use Rattle.std.proofs.lemmas.Bool.{or_parts, or_left, or_right, and_from}
 use Rattle.std.specs.Ordering.{int_eq}
-use Rattle.lx_num.specs.Ints.{field_of, floor_div}
-use Rattle.lx_circuit.specs.Terms.{Term, Terms, Constant, Signal, Unary, Binary, Mux, Cat, Replicate, Slice, Pick, NoTerm, MoreTerms}
-use Rattle.lx_circuit.specs.Shapes.{Shapes, shape_of, shapes_of}
-use Rattle.lx_circuit.specs.Values.{Values, value_of, values_of, unary_value, binary_value, mux_value, cat_pattern, replicate_value, pick_value, is_zero, count_of, nth_or_last}
+use Rattle.lx_num.specs.Ints.{floor_div}
+use Rattle.lx_circuit.specs.Terms.{Term}
+use Rattle.lx_circuit.specs.Shapes.{Shapes}
+use Rattle.lx_circuit.specs.Places.{Place, Values, At, Word}
+use Rattle.lx_circuit.specs.Values.{value_of, is_zero, count_of, nth_or_last}
 use Rattle.lx_circuit.specs.Statements.{Target, Targets, Whole, Part, CatTarget, PickTarget, NoTarget, MoreTargets, Stmt, Assign, If, Case, Branches, NoBranch, Branch, Arms, NoArm, Arm, Block, Done, Then, Piece, pieces, parts_pieces, items_pieces, target_bits, taken, taken_branch, taken_arm, taken_block, after_pieces, laid_over, is_target, some_target, drives, drives_branch, drives_arm, drives_block}
-use Rattle.lx_circuit.specs.Reads.{names, some_names, target_names, targets_name, reads, reads_branch, reads_arm, reads_block}
-use Rattle.lx_circuit.proofs.Cases.{by_test, or_true_left, or_true_right, and_true, after_append, same_choice, same_result}
+use Rattle.lx_circuit.specs.Reads.{names, target_names, targets_name, reads, reads_branch, reads_arm, reads_block}
+use Rattle.lx_circuit.specs.Locality.{Alike}
+use Rattle.lx_circuit.proofs.Locality.{term_same}
+use Rattle.lx_circuit.proofs.Cases.{by_test, after_append, same_choice, same_result}
 
 -- two valuations agree where a test holds
-abbrev pub AgreeOn : Values → Values → (ℕ → Bool) → Type 0
-AgreeOn v w p = (y : ℕ) → p y ≡ true → v y ≡ w y
+abbrev pub AgreeOn : Values → Values → (Place → Bool) → Type 0
+AgreeOn v w p = (y : Place) → p y ≡ true → v y ≡ w y
 
 -- they agree on fewer signals too
-left_of : (v w : Values) (p q : ℕ → Bool) → AgreeOn v w (λ y. p y || q y) → AgreeOn v w p
-left_of v w p q h y e = h y (or_true_left (p y) (q y) e)
+pub left_of : (v w : Values) (p q : Place → Bool) → AgreeOn v w (λ y. p y || q y) → AgreeOn v w p
+left_of v w p q h y e = h y (or_left (p y) (q y) e)
 
-right_of : (v w : Values) (p q : ℕ → Bool) → AgreeOn v w (λ y. p y || q y) → AgreeOn v w q
-right_of v w p q h y e = h y (or_true_right (p y) (q y) e)
+pub right_of : (v w : Values) (p q : Place → Bool) → AgreeOn v w (λ y. p y || q y) → AgreeOn v w q
+right_of v w p q h y e = h y (or_right (p y) (q y) e)
 
-mutual
-  -- an expression's value hangs on the signals that it names
-  pub value_same : (s : Shapes) (v w : Values) (t : Term) → AgreeOn v w (λ y. names y t) → value_of s v t ≡ value_of s w t
-  value_same s v w (Constant z a) h = refl
-  value_same s v w (Signal x) h = h x (eq-eqb x x refl)
-  value_same s v w (Unary op a) h = ap (λ z. unary_value op (shape_of s a) z) (value_same s v w a h)
-  value_same s v w (Binary op a b) h =
-      ap (λ z. binary_value op z (value_of s v b)) (value_same s v w a (left_of v w (λ y. names y a) (λ y. names y b) h))
-      ∙ ap (λ z. binary_value op (value_of s w a) z) (value_same s v w b (right_of v w (λ y. names y a) (λ y. names y b) h))
-  value_same s v w (Mux c a b) h =
-      let k = right_of v w (λ y. names y c) (λ y. names y a || names y b) h in
-      ap (λ z. mux_value z (value_of s v a) (value_of s v b)) (value_same s v w c (left_of v w (λ y. names y c) (λ y. names y a || names y b) h))
-      ∙ ap (λ z. mux_value (value_of s w c) z (value_of s v b)) (value_same s v w a (left_of v w (λ y. names y a) (λ y. names y b) k))
-      ∙ ap (λ z. mux_value (value_of s w c) (value_of s w a) z) (value_same s v w b (right_of v w (λ y. names y a) (λ y. names y b) k))
-  value_same s v w (Cat ps) h = ap (λ zs. pos (cat_pattern (shapes_of s ps) zs)) (values_same s v w ps h)
-  value_same s v w (Replicate a k) h = ap (λ z. replicate_value (shape_of s a) k z) (value_same s v w a h)
-  value_same s v w (Slice a low high) h = ap (λ z. pos (field_of z low (high - low))) (value_same s v w a h)
-  value_same s v w (Pick items i) h =
-      ap (λ zs. pick_value zs (value_of s v i)) (values_same s v w items (left_of v w (λ y. some_names y items) (λ y. names y i) h))
-      ∙ ap (λ z. pick_value (values_of s w items) z) (value_same s v w i (right_of v w (λ y. some_names y items) (λ y. names y i) h))
+alike_from : (s : Shapes) (v w : Values) (p : Place → Bool) → AgreeOn v w p → Alike s s v w p
+alike_from s v w p h = record { shapes = λ x e. refl; signals = λ x e. h (At x) e; words = λ m k e. h (Word m k) e }
 
-  pub values_same : (s : Shapes) (v w : Values) (ts : Terms) → AgreeOn v w (λ y. some_names y ts) → values_of s v ts ≡ values_of s w ts
-  values_same s v w NoTerm h = refl
-  values_same s v w (MoreTerms t ts) h =
-      ap (λ z. z ∷ values_of s v ts) (value_same s v w t (left_of v w (λ y. names y t) (λ y. some_names y ts) h))
-      ∙ ap (λ zs. value_of s w t ∷ zs) (values_same s v w ts (right_of v w (λ y. names y t) (λ y. some_names y ts) h))
+-- an expression's value hangs on the places that it names
+pub value_same : (s : Shapes) (v w : Values) (t : Term) → AgreeOn v w (λ y. names y t) → value_of s v t ≡ value_of s w t
+value_same s v w t h = (term_same s s v w t (alike_from s v w (λ y. names y t) h)).value
 
 mutual
   -- what a target takes hangs on its indices
@@ -137,7 +120,7 @@ mutual
       then_leaves x (taken s v st) (taken_block s v ss) (stmt_leaves s v x st both.0) (block_leaves s v x ss both.1) p
 
 -- one after the other, under two valuations
-then_same : (x : ℕ) (as_ bs cs ds : List Piece) → ((p : ℕ) → after_pieces x p as_ ≡ after_pieces x p cs) → ((p : ℕ) → after_pieces x p bs ≡ after_pieces x p ds) → (p : ℕ) → after_pieces x p (as_ ++ bs) ≡ after_pieces x p (cs ++ ds)
+pub then_same : (x : ℕ) (as_ bs cs ds : List Piece) → ((p : ℕ) → after_pieces x p as_ ≡ after_pieces x p cs) → ((p : ℕ) → after_pieces x p bs ≡ after_pieces x p ds) → (p : ℕ) → after_pieces x p (as_ ++ bs) ≡ after_pieces x p (cs ++ ds)
 then_same x as_ bs cs ds h k p =
     after_append x p as_ bs ∙ (k (after_pieces x p as_) ∙ (ap (λ q. after_pieces x q ds) (h p) ∙ sym (after_append x p cs ds)))
 
@@ -146,7 +129,7 @@ mutual
   pub stmt_same : (s : Shapes) (v w : Values) (x : ℕ) (st : Stmt) → AgreeOn v w (λ y. reads x y st) → (p : ℕ) → after_pieces x p (taken s v st) ≡ after_pieces x p (taken s w st)
   stmt_same s v w x (Assign t e) h p =
       by_test (is_target x t)
-      (λ d. let k : AgreeOn v w (λ y. names y e || target_names y t) = λ y q. h y (and_true (is_target x t) (names y e || target_names y t) d q) in
+      (λ d. let k : AgreeOn v w (λ y. names y e || target_names y t) = λ y q. h y (and_from (is_target x t) (names y e || target_names y t) d q) in
       ap (λ z. after_pieces x p (pieces s v t z)) (value_same s v w e (left_of v w (λ y. names y e) (λ y. target_names y t) k))
       ∙ ap (λ qs. after_pieces x p qs) (pieces_same s v w t (value_of s w e) (right_of v w (λ y. names y e) (λ y. target_names y t) k)))
       (λ d. target_leaves s v x t (value_of s v e) d p ∙ sym (target_leaves s w x t (value_of s w e) d p))
@@ -156,7 +139,7 @@ mutual
   stmt_same s v w x (Case on arms rest) h p =
       let k = right_of v w (λ y. names y on && (drives_arm x arms || drives_block x rest)) (λ y. reads_arm x y arms || reads_block x y rest) h in
       by_test (drives_arm x arms || drives_block x rest)
-      (λ d. let n : AgreeOn v w (λ y. names y on) = λ y q. h y (or_true_left (names y on && (drives_arm x arms || drives_block x rest)) (reads_arm x y arms || reads_block x y rest) (and_true (names y on) (drives_arm x arms || drives_block x rest) q d)) in
+      (λ d. let n : AgreeOn v w (λ y. names y on) = λ y q. h y (or_left (names y on && (drives_arm x arms || drives_block x rest)) (reads_arm x y arms || reads_block x y rest) (and_from (names y on) (drives_arm x arms || drives_block x rest) q d)) in
       ap (λ z. after_pieces x p (taken_arm s v z arms (taken_block s v rest))) (value_same s v w on n)
       ∙ arm_same s v w x (value_of s w on) arms (taken_block s v rest) (taken_block s w rest)
       (left_of v w (λ y. reads_arm x y arms) (λ y. reads_block x y rest) k)
@@ -165,7 +148,7 @@ mutual
       arm_leaves s v x (value_of s v on) arms (taken_block s v rest) both.0 (block_leaves s v x rest both.1) p
       ∙ sym (arm_leaves s w x (value_of s w on) arms (taken_block s w rest) both.0 (block_leaves s w x rest both.1) p))
 
-  pub branch_same : (s : Shapes) (v w : Values) (x : ℕ) (bs : Branches) (rv rw : List Piece) (driven : Bool) (read : ℕ → Bool)
+  pub branch_same : (s : Shapes) (v w : Values) (x : ℕ) (bs : Branches) (rv rw : List Piece) (driven : Bool) (read : Place → Bool)
       → (driven ≡ false → (p : ℕ) → after_pieces x p rv ≡ p) → (driven ≡ false → (p : ℕ) → after_pieces x p rw ≡ p)
       → (AgreeOn v w read → (p : ℕ) → after_pieces x p rv ≡ after_pieces x p rw)
       → AgreeOn v w (λ y. reads_branch x y bs driven (read y)) → (p : ℕ) → after_pieces x p (taken_branch s v bs rv) ≡ after_pieces x p (taken_branch s w bs rw)
@@ -176,7 +159,7 @@ mutual
       let inner = block_same s v w x b (left_of v w (λ y. reads_block x y b) (λ y. reads_branch x y more driven (read y)) k) p in
       let later = branch_same s v w x more rv rw driven read lv lw same (right_of v w (λ y. reads_block x y b) (λ y. reads_branch x y more driven (read y)) k) p in
       by_test here
-      (λ d. let n : AgreeOn v w (λ y. names y c) = λ y q. h y (or_true_left (names y c && here) (reads_block x y b || reads_branch x y more driven (read y)) (and_true (names y c) here q d)) in
+      (λ d. let n : AgreeOn v w (λ y. names y c) = λ y q. h y (or_left (names y c && here) (reads_block x y b || reads_branch x y more driven (read y)) (and_from (names y c) here q d)) in
       ap (λ z. after_pieces x p (cond (is_zero z) (taken_branch s v more rv) (taken_block s v b))) (value_same s v w c n)
       ∙ same_choice (λ qs. after_pieces x p qs) (is_zero (value_of s w c)) (taken_branch s v more rv) (taken_branch s w more rw) (taken_block s v b) (taken_block s w b) later inner)
       (λ d. let first = or_parts (drives_block x b) (drives_branch x more || driven) d in

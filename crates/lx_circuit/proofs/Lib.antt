@@ -1,5 +1,12 @@
+pub mod BlockLocality
 pub mod Cases
+pub mod Extension
 pub mod Fitting
 pub mod Frames
+pub mod Instances
+pub mod Locality
+pub mod Orders
+pub mod Runs
 pub mod Settle
 pub mod Views
+pub mod Whole

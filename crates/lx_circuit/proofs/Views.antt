@@ -1,7 +1,7 @@
 -- Exactly one view after every list of steps.
-use Rattle.std.proofs.Common.{◌≡◌, ℕ, List, [], ◌∷◌, subst}
+use Rattle.std.proofs.Common.{◌≡◌, List, [], ◌∷◌, subst}
 use Rattle.std.proofs.Math.Path.{fun_ext}
-use Rattle.lx_circuit.specs.Values.{Values}
+use Rattle.lx_circuit.specs.Places.{Place, Values}
 use Rattle.lx_circuit.specs.Circuit.{Circuit, Step, next_state, first_state, ViewFrom}
 use Rattle.lx_circuit.specs.Reads.{HasOrder}
 use Rattle.lx_circuit.specs.Settling.{ViewedOnce}
@@ -11,9 +11,9 @@ use Rattle.lx_circuit.proofs.Settle.{settles_once}
 pub record FromOnce (c : Circuit) (state : Values) (steps : List Step) (inputs : Values) : Type 0 where
   pub values : Values
   pub view : ViewFrom c state steps inputs values
-  pub only : (v : Values) → ViewFrom c state steps inputs v → (x : ℕ) → v x ≡ values x
+  pub only : (v : Values) → ViewFrom c state steps inputs v → (p : Place) → v p ≡ values p
 
-pub from_once : (c : Circuit) → HasOrder c → (state : Values) (steps : List Step) (inputs : Values) → FromOnce c state steps inputs
+unfoldable pub from_once : (c : Circuit) → HasOrder c → (state : Values) (steps : List Step) (inputs : Values) → FromOnce c state steps inputs
 from_once c o state [] inputs =
     let one = settles_once c o state inputs in
     record { values = one.values; view = one.settled; only = one.only }
@@ -23,10 +23,10 @@ from_once c o state (t ∷ ts) inputs =
     record {
       values = later.values;
       view = (one.values, one.settled, later.view);
-      only = λ v p x. later.only v (let same : p.0 ≡ one.values = fun_ext (one.only p.0 p.1) in subst (λ (w : Values). ViewFrom c (next_state c state w t.rises) ts inputs v) same p.2) x;
+      only = λ v h p. later.only v (let same : h.0 ≡ one.values = fun_ext (one.only h.0 h.1) in subst (λ (w : Values). ViewFrom c (next_state c state w t.rises) ts inputs v) same h.2) p;
     }
 
-pub viewed_once : (c : Circuit) → HasOrder c → (steps : List Step) (inputs : Values) → ViewedOnce c steps inputs
+unfoldable pub viewed_once : (c : Circuit) → HasOrder c → (steps : List Step) (inputs : Values) → ViewedOnce c steps inputs
 viewed_once c o steps inputs =
     let once = from_once c o (first_state c) steps inputs in
     record { values = once.values; view = once.view; only = once.only }

@@ -6,7 +6,7 @@ use Rattle.lx_tables.specs.declared.operators.Op.{Op}
 use Rattle.lx_tables.specs.declared.operators.Op.TheVariants.{Neg, Add, Sub, Mul, Shl, Shr, And, Or, Xor}
 use Rattle.lx_circuit.specs.declared.WidthFault.{WidthFault}
 use Rattle.lx_circuit.specs.declared.WidthFault.TheVariants.{TooWide, SignedShift, BadSlice, BadWidth}
-use Rattle.lx_circuit.specs.Terms.{Term, Terms, Constant, Signal, Unary, Binary, Mux, Cat, Replicate, Slice, Pick, NoTerm, MoreTerms}
+use Rattle.lx_circuit.specs.Terms.{Term, Terms, Constant, Signal, Unary, Binary, Mux, Cat, Replicate, Slice, Pick, Fetch, NoTerm, MoreTerms}
 
 -- beside a signed operand an unsigned one counts one bit more
 abbrev pub extra : Bool → Bool → ℕ
@@ -71,6 +71,7 @@ abbrev mutual
   shape_of s (Replicate a count) = unsigned (count * (shape_of s a).bits)
   shape_of s (Slice a low high) = unsigned (high - low)
   shape_of s (Pick items index) = pick_shape (shapes_of s items)
+  shape_of s (Fetch m width at) = unsigned width
 
   pub shapes_of : Shapes → Terms → List Shape
   shapes_of s NoTerm = []
@@ -106,6 +107,7 @@ slice_fault a low high = if nat_lt low high && nat_le high a.bits then None else
 abbrev pub pick_fault : List Shape → Shape → Option WidthFault
 pick_fault items index = or_else (index_fault index) (too_wide (pick_shape items).bits)
 
+-- a stated shape
 abbrev pub constant_fault : Shape → Option WidthFault
 constant_fault a = if nat_eq a.bits 0 then Some BadWidth else too_wide a.bits
 
@@ -122,6 +124,7 @@ abbrev mutual
   fault_of s (Replicate a count) = or_else (fault_of s a) (replicate_fault (shape_of s a) count)
   fault_of s (Slice a low high) = or_else (fault_of s a) (slice_fault (shape_of s a) low high)
   fault_of s (Pick items index) = or_else (faults_of s items) (or_else (fault_of s index) (pick_fault (shapes_of s items) (shape_of s index)))
+  fault_of s (Fetch m width at) = or_else (fault_of s at) (constant_fault (unsigned width))
 
   pub faults_of : Shapes → Terms → Option WidthFault
   faults_of s NoTerm = None

@@ -2,9 +2,10 @@
 use Rattle.std.specs.Prelude.{ℕ, ℤ, Bool, false, List, [], ◌∷◌, ◌++◌, ◌+◌, ◌*◌, ◌/◌, ◌%◌, ◌^◌, ◌||◌, max, nat_eq, if◌then◌else◌}
 use Rattle.std.specs.Ordering.{int_eq}
 use Rattle.lx_num.specs.Ints.{modulo, floor_div, read_bits}
+use Rattle.lx_circuit.specs.Places.{Values}
 use Rattle.lx_circuit.specs.Terms.{Term}
 use Rattle.lx_circuit.specs.Shapes.{Shapes}
-use Rattle.lx_circuit.specs.Values.{Values, value_of, is_zero, count_of, nth_or_last}
+use Rattle.lx_circuit.specs.Values.{value_of, is_zero, count_of, nth_or_last}
 
 mutual
   pub data Target : Type 0 where

@@ -10,7 +10,7 @@ mutual
     Signal : (id : ℕ) → Term
     Unary : (op : Op) (of : Term) → Term
     Binary : (op : Op) (left right : Term) → Term
-    Mux : (cond so other : Term) → Term
+    Mux : (cond then_ else_ : Term) → Term
     -- the first part in the lowest bits
     Cat : (parts : Terms) → Term
     Replicate : (of : Term) (count : ℕ) → Term
@@ -18,6 +18,8 @@ mutual
     Slice : (of : Term) (low high : ℕ) → Term
     -- the item at the index, the last item past the end
     Pick : (items : Terms) (index : Term) → Term
+    -- the word of a memory at the index, of so many bits
+    Fetch : (memory width : ℕ) (at : Term) → Term
 
   pub data Terms : Type 0 where
     NoTerm : Terms

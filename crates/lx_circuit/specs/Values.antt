@@ -3,16 +3,13 @@ use Rattle.std.specs.Prelude.{ℕ, ℤ, pos, negsuc, Bool, List, [], ◌∷◌, 
 use Rattle.std.proofs.Common.{zero, suc, neg_ℤ}
 use Rattle.std.specs.Ordering.{int_eq}
 use Rattle.lx_num.specs.declared.Shape.{Shape}
-use Rattle.lx_num.specs.Ints.{modulo, floor_div, wrapped, field_of}
+use Rattle.lx_num.specs.Ints.{modulo, floor_div, unsigned, wrapped, field_of}
 use Rattle.lx_num.specs.Bits.{int_not, int_and, int_or, int_xor}
 use Rattle.lx_tables.specs.declared.operators.Op.{Op}
 use Rattle.lx_tables.specs.declared.operators.Op.TheVariants.{Neg, Not, Add, Sub, Mul, Shl, Shr, And, Or, Xor, Eq, Ne, Lt, Le, Gt, Ge}
-use Rattle.lx_circuit.specs.Terms.{Term, Terms, Constant, Signal, Unary, Binary, Mux, Cat, Replicate, Slice, Pick, NoTerm, MoreTerms}
+use Rattle.lx_circuit.specs.Places.{Values, At, Word}
+use Rattle.lx_circuit.specs.Terms.{Term, Terms, Constant, Signal, Unary, Binary, Mux, Cat, Replicate, Slice, Pick, Fetch, NoTerm, MoreTerms}
 use Rattle.lx_circuit.specs.Shapes.{Shapes, shape_of, shapes_of}
-
--- the values of all signals
-abbrev pub Values : Type 0
-Values = ℕ → ℤ
 
 abbrev pub flag : Bool → ℤ
 flag b = if b then pos 1 else pos 0
@@ -72,11 +69,11 @@ nth_or_last last (x ∷ xs) (suc k) = nth_or_last x xs k
 abbrev pub pick_value : List ℤ → ℤ → ℤ
 pick_value items index = nth_or_last (pos 0) items (count_of index)
 
--- The value of an expression under the values of the signals.
+-- The value of an expression under the values of all places.
 abbrev mutual
   pub value_of : Shapes → Values → Term → ℤ
   value_of s v (Constant value shape) = wrapped shape value
-  value_of s v (Signal x) = v x
+  value_of s v (Signal x) = v (At x)
   value_of s v (Unary op a) = unary_value op (shape_of s a) (value_of s v a)
   value_of s v (Binary op a b) = binary_value op (value_of s v a) (value_of s v b)
   value_of s v (Mux c a b) = mux_value (value_of s v c) (value_of s v a) (value_of s v b)
@@ -84,6 +81,7 @@ abbrev mutual
   value_of s v (Replicate a count) = replicate_value (shape_of s a) count (value_of s v a)
   value_of s v (Slice a low high) = pos (field_of (value_of s v a) low (high - low))
   value_of s v (Pick items index) = pick_value (values_of s v items) (value_of s v index)
+  value_of s v (Fetch m width at) = wrapped (unsigned width) (v (Word m (count_of (value_of s v at))))
 
   pub values_of : Shapes → Values → Terms → List ℤ
   values_of s v NoTerm = []

@@ -3,9 +3,10 @@ use Rattle.std.specs.Prelude.{◌≡◌, ℕ, ℤ, pos, negsuc, true, Some, None
 use Rattle.lx_num.specs.Ints.{shape, unsigned, wrapped}
 use Rattle.lx_tables.specs.declared.operators.Op.TheVariants as op
 use Rattle.lx_circuit.specs.declared.WidthFault.TheVariants.{TooWide, SignedShift, BadSlice}
+use Rattle.lx_circuit.specs.Places.{Values, At}
 use Rattle.lx_circuit.specs.Terms.{Term, Constant, Signal, Unary, Binary, Mux, Cat, Replicate, Slice, Pick, NoTerm, MoreTerms}
 use Rattle.lx_circuit.specs.Shapes.{Shapes, shape_of, fault_of}
-use Rattle.lx_circuit.specs.Values.{Values, value_of}
+use Rattle.lx_circuit.specs.Values.{value_of}
 use Rattle.lx_circuit.specs.Statements.{Block, Done, Then, Assign, If, Branch, NoBranch, Case, NoArm, Arm, Whole, Part, CatTarget, PickTarget, NoTarget, MoreTargets, taken_block, result}
 
 -- signal 0 has four signed bits, signal 1 four unsigned ones, signal 2 one, signal 3 eight, the others 64
@@ -16,7 +17,8 @@ shapes x =
 
 -- signals 0 and 1 have these values, and signal 2 is 1
 abbrev pub values : ℤ → ℤ → Values
-values a b x = if nat_eq x 0 then a else (if nat_eq x 1 then b else pos 1)
+values a b (At x) = if nat_eq x 0 then a else (if nat_eq x 1 then b else pos 1)
+values a b _ = pos 0
 
 -- - 8 and - 5
 abbrev pub minus_eight : ℤ
@@ -34,13 +36,14 @@ sliced =
     Then (Assign (Part 3 0 4) (Constant (pos 5) (unsigned 4)))
     (Then (If (Branch (Signal 2) (Then (Assign (Part 3 2 4) (Constant (pos 0) (unsigned 4))) Done) NoBranch) Done) Done)
 
--- every signal is c
+-- every place is c
 abbrev pub condition : ℤ → Values
-condition c x = c
+condition c p = c
 
 -- signal 0 is a, and the others are c
 abbrev pub conditions : ℤ → ℤ → Values
-conditions a c x = if nat_eq x 0 then a else c
+conditions a c (At x) = if nat_eq x 0 then a else c
+conditions a c _ = pos 0
 
 -- u.eq(k), where u is signal 1
 abbrev pub set : ℕ → Block

@@ -1,7 +1,6 @@
 -- The texts of the statements for one signal have a text: lawful names, few brackets, and no deeper than the statements.
 use Rattle.std.proofs.Common.{◌≡◌, ℕ, zero, suc, ◌<◌, ◌≤◌, Bool, true, false, List, [], ◌∷◌, ◌++◌, length, refl, sym, subst, arith}
-use Rattle.std.specs.Prelude.{Option, Some, None, nat_eq, slice_get, slice_index_or, IsTrue}
-use Rattle.std.specs.List.{list_all}
+use Rattle.std.specs.Prelude.{Option, Some, None, nat_eq, slice_get, IsTrue}
 use Rattle.std.proofs.lemmas.Bool.{and_parts}
 use Rattle.lx_circuit.specs.Statements as tree
 use Rattle.lx_circuit.specs.Circuit.{made}
@@ -17,10 +16,11 @@ use Rattle.lx_fhdl.specs.declared.exprs.SigId.{SigId}
 use Rattle.lx_fhdl.specs.declared.design.SyncPart.{SyncPart}
 use Rattle.lx_fhdl.specs.declared.design.Design.{Design}
 use Rattle.lx_emission.specs.Naming.{net, NamesFit}
-use Rattle.lx_emission.specs.Signals.{Combined, Clocked, own, drive, domain_reset, reset_block, reset_text, combined_body, clocked_body}
+use Rattle.lx_emission.specs.Signals.{CombBlock, Sync, own, drive, domain_reset, reset_block, reset_text, comb_body, sync_body}
 use Rattle.lx_emission.specs.Texts.{block_onto, else_text, stmt_text}
 use Rattle.lx_emission.proofs.Setting.{OperandsAreLawful}
-use Rattle.lx_emission.proofs.Blocks.{Bits, AllBits, SomeBits, bits_text, text_holds, by_choice, combined_list, combined_own, clocked_list, clocked_own, reset_within}
+use Rattle.lx_emission.proofs.Blocks.{Bits, AllBits, SomeBits, bits_text, text_holds, by_choice, comb_list, comb_own, sync_list, sync_own, reset_within}
+use Rattle.lx_emission.proofs.Lawful.{net_lawful}
 
 -- a statement's text is lawful where it may nest as deep as the statement
 abbrev IsLawfulText : tree.Stmt → VStmt → Type 0
@@ -50,7 +50,7 @@ else_lawful x s g h (i ∷ is) plain n deep = list_lawful x s g h (i ∷ is) pla
 
 stmt_lawful : (d : Design) (names : List Name) (now : Bool) (x : ℕ) → Keeps d → OperandsAreLawful d names → IsTrue (is_name (net names x)) → (k : ℕ) → is_for x (stmt d k) ≡ true → IsLawfulText (stmt d k) (stmt_text d names now k)
 stmt_lawful d names now x keeps operands name = text_holds d names now x IsLawfulText keeps (record {
-  assigns = λ t c k h l m deep. (bits_lawful d (net names x) x name c, operands.each k 32 l);
+  assigns = λ t c k h made l m deep. (bits_lawful d (net names x) x name c, operands.each k 32 l);
   chooses = λ s g k body rest l h p q some m deep. (operands.each k 31 l, list_lawful x s g h body p m (omega arith) EndBlock tt, else_lawful x s g h rest q m (omega arith));
 })
 
@@ -82,15 +82,6 @@ sync_depth d k (p ∷ ps) h =
 
 -- ---- the blocks of a module
 
-list_name : (names : List Name) (x : ℕ) → list_all is_name names ≡ true → x < length names → is_name (slice_index_or names x []) ≡ true
-list_name [] x h lt = absurd (omega arith)
-list_name (n ∷ ns) zero h lt = (and_parts (is_name n) (list_all is_name ns) h).0
-list_name (n ∷ ns) (suc x) h lt = list_name ns x (and_parts (is_name n) (list_all is_name ns) h).1 (omega arith)
-
--- the net of a signal has a lawful name
-pub net_lawful : (d : Design) (names : List Name) → NamesFit d names → (x : ℕ) → x < length d.signals → IsTrue (is_name (net names x))
-net_lawful d names fit x lt = list_name names x fit.lawful (omega (arith, fit.long))
-
 reset_lawful : (d : Design) (names : List Name) (x : ℕ) → IsTrue (is_name (net names x)) → ((b : ℕ) → IsExpr b (reset_text d x)) → (o : Option SigId) → ((r : SigId) → o ≡ Some r → IsTrue (is_name (net names r.0))) → IsBlock 128 (reset_block d names x o)
 reset_lawful d names x name reset None reads = tt
 reset_lawful d names x name reset (Some r) reads =
@@ -99,21 +90,21 @@ reset_lawful d names x name reset (Some r) reads =
     (λ h. tt) (λ h. ((reads r refl, ((name, reset 32), tt), tt), tt))
 
 -- the block of `always @(*)` for x
-pub combined_lawful : (d : Design) (names : List Name) (x : ℕ) → Keeps d → IsLowered d → OperandsAreLawful d names → NamesFit d names → x < length d.signals → ((b : ℕ) → IsExpr b (reset_text d x))
-    → (ids : List StmtId) → drive d x ≡ Combined ids → IsBlock 128 (combined_body d names x ids)
-combined_lawful d names x keeps low operands fit lt reset ids e =
-    let list = combined_own d x ids keeps low e in
+pub comb_lawful : (d : Design) (names : List Name) (x : ℕ) → Keeps d → IsLowered d → OperandsAreLawful d names → NamesFit d names → x < length d.signals → ((b : ℕ) → IsExpr b (reset_text d x))
+    → (ids : List StmtId) → drive d x ≡ CombBlock ids → IsBlock 128 (comb_body d names x ids)
+comb_lawful d names x keeps low operands fit lt reset ids e =
+    let list = comb_own d x ids keeps low e in
     let name = net_lawful d names fit x lt in
-    let deep : block_depth (block d ids) ≤ 128 = subst (λ (ks : List StmtId). block_depth (block d ks) ≤ 128) (sym (combined_list d x ids e)) (omega (arith, own_depth d x d.comb, keeps.comb.depth)) in
+    let deep : block_depth (block d ids) ≤ 128 = subst (λ (ks : List StmtId). block_depth (block d ks) ≤ 128) (sym (comb_list d x ids e)) (omega (arith, own_depth d x d.comb, keeps.comb.depth)) in
     ((name, reset 32), text_lawful d names true x keeps operands name ids list.below list.plain 128 deep EndBlock tt)
 
 -- and the clocked block
-pub clocked_lawful : (d : Design) (names : List Name) (x : ℕ) → Keeps d → IsLowered d → OperandsAreLawful d names → NamesFit d names → x < length d.signals → ((b : ℕ) → IsExpr b (reset_text d x))
-    → (k : ℕ) (ids : List StmtId) → drive d x ≡ Clocked k ids → IsBlock 128 (clocked_body d names x k ids)
-clocked_lawful d names x keeps low operands fit lt reset k ids e =
-    let list = clocked_own d x k ids keeps low e in
+pub sync_lawful : (d : Design) (names : List Name) (x : ℕ) → Keeps d → IsLowered d → OperandsAreLawful d names → NamesFit d names → x < length d.signals → ((b : ℕ) → IsExpr b (reset_text d x))
+    → (k : ℕ) (ids : List StmtId) → drive d x ≡ Sync k ids → IsBlock 128 (sync_body d names x k ids)
+sync_lawful d names x keeps low operands fit lt reset k ids e =
+    let list = sync_own d x k ids keeps low e in
     let name = net_lawful d names fit x lt in
     let deep : block_depth (block d ids) ≤ 128 =
-    subst (λ (ks : List StmtId). block_depth (block d ks) ≤ 128) (sym (clocked_list d x k ids e)) (omega (arith, own_depth d x (stmts_of k d.sync), sync_depth d k d.sync keeps.sync)) in
+    subst (λ (ks : List StmtId). block_depth (block d ks) ≤ 128) (sym (sync_list d x k ids e)) (omega (arith, own_depth d x (stmts_of k d.sync), sync_depth d k d.sync keeps.sync)) in
     let end = reset_lawful d names x name reset (domain_reset (slice_get d.domains k)) (λ r h. net_lawful d names fit r.0 (reset_within d keeps k r h)) in
     text_lawful d names false x keeps operands name ids list.below list.plain 128 deep (reset_block d names x (domain_reset (slice_get d.domains k))) end

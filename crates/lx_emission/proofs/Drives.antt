@@ -6,7 +6,7 @@ use Rattle.std.proofs.lemmas.Bool.{and_parts, cond_both, eqb-true, eqb-false}
 use Rattle.std.proofs.lemmas.Nat.{pow_pos}
 use Rattle.std.proofs.lemmas.Option.{slice_get_within}
 use Rattle.lx_num.specs.declared.Shape.{Shape}
-use Rattle.lx_num.specs.Ints.{modulo, floor_div, field_of}
+use Rattle.lx_num.specs.Ints.{modulo, floor_div, field_of, wrapped, unsigned}
 use Rattle.lx_num.proofs.Ints.{modulo-small, modulo-below}
 use Rattle.lx_num.proofs.Ranges.{fits_pos}
 use Rattle.lx_tables.specs.declared.operators.Op.{Op}
@@ -14,12 +14,13 @@ use Rattle.lx_tables.specs.declared.operators.Op.TheVariants as op
 use Rattle.lx_tables.specs.Operators.{row_of, mix_of}
 use Rattle.lx_circuit.specs.Terms.{Term}
 use Rattle.lx_circuit.specs.Shapes.{Shapes, shape_of, shapes_of, fault_of, or_else, bits_sum, unary_shape, binary_shape, joined, too_wide, index_fault, binary_fault, replicate_fault, slice_fault}
-use Rattle.lx_circuit.specs.Values.{Values, value_of, values_of, unary_value, binary_value, mux_value, cat_pattern, replicate_value}
+use Rattle.lx_circuit.specs.Places as Place
+use Rattle.lx_circuit.specs.Places.{Values}
+use Rattle.lx_circuit.specs.Values.{value_of, values_of, unary_value, binary_value, mux_value, cat_pattern, replicate_value, count_of}
 use Rattle.lx_circuit.specs.declared.WidthFault.TheVariants.{BadWidth}
-use Rattle.lx_vtext.specs.Tree as tree
-use Rattle.lx_vtext.specs.Tree.{Name, VExpr, VExprs, Net, Literal, Select, Word, Choose, Concat, Repeat, ToSigned, ToUnsigned, NoMore, More}
+use Rattle.lx_vtext.specs.Tree.{Name, VExpr, VExprs, Net, Literal, PartSelect, Word, Replication, ToUnsigned, NoMore, More}
 use Rattle.lx_vmeaning.specs.Meaning as verilog
-use Rattle.lx_vmeaning.specs.Meaning.{Sizes, Valuation, Meaning, extend, meaning, meanings, own, leaf, assigned}
+use Rattle.lx_vmeaning.specs.Meaning.{Declared, Sizes, Valuation, Meaning, extend, meaning, meanings, own, leaf, assigned}
 use Rattle.lx_tie.specs.Stands.{Exact, Drives}
 use Rattle.lx_tie.specs.Rows as row
 use Rattle.lx_tie.specs.Rows.{TakesRight, StandFor, reversed_onto}
@@ -27,19 +28,23 @@ use Rattle.lx_circuit.specs.Operands.{is_unary, is_binary}
 use Rattle.lx_tie.proofs.Leaves.{exact_leaf, own_exact, drives_net, spreads_drives, exact_spreads}
 use Rattle.lx_tie.proofs.Rows.{unary_drives, binary_drives, choice_drives}
 use Rattle.lx_tie.proofs.Parts.{field_bits, exact_select, exact_cat, exact_repeat}
-use Rattle.lx_fhdl.specs.Below.{ExprId}
+use Rattle.lx_fhdl.specs.Below.{ExprId, expr_below}
 use Rattle.lx_fhdl.specs.Nodes.{EachPlace, EachChild, HasParts}
-use Rattle.lx_fhdl.specs.Designs.{term, shapes}
+use Rattle.lx_fhdl.specs.Designs.{term, shapes, memory_at}
 use Rattle.lx_fhdl.specs.Keeping.{Keeps, TakesOperands}
 use Rattle.lx_fhdl.specs.Lowered.{IsLowered, is_no_pick}
 use Rattle.lx_fhdl.specs.Trees.{terms_at, node_term}
 use Rattle.lx_fhdl.specs.declared.exprs.Expr.{Expr}
-use Rattle.lx_fhdl.specs.declared.exprs.Expr.TheVariants.{Const, Sig, Unary, Binary, Mux, Cat, Pick, Replicate, Slice}
+use Rattle.lx_fhdl.specs.declared.exprs.Expr.TheVariants.{Const, Sig, Unary, Binary, Mux, Cat, Pick, Replicate, Slice, Fetch}
 use Rattle.lx_fhdl.specs.declared.design.Design.{Design}
-use Rattle.lx_fhdl.proofs.Arena.{each_child, lower_at, by_test_none, slice_inside}
+use Rattle.lx_fhdl.proofs.Arena.{each_child, by_test_none, slice_inside}
+use Rattle.lx_arena.proofs.Places.{lower_at}
 use Rattle.lx_fhdl.proofs.Operators.{none_left, none_right, index_unsigned}
 use Rattle.lx_fhdl.proofs.Trees.{term_at-is}
-use Rattle.lx_emission.specs.Naming.{has_net, node_net}
+use Rattle.lx_emission.specs.Naming.{has_net, node_net, memory_name}
+use Rattle.lx_emission.specs.Emits.{HasIndex, MemoriesFit}
+use Rattle.lx_emission.proofs.Reading.{fetch_at, shape_is}
+use Rattle.lx_tie.proofs.Words.{word_exact}
 use Rattle.lx_emission.specs.Nodes.{node_shape, operand_of, operand, wide_if, parts_onto, concat_of, cat_text, slice_text, unary_text, binary_text, choice_text, node_text_of, node_text}
 use Rattle.lx_emission.proofs.Setting.{IsNetNode, DeclaresNets, HasPatterns, SignalsFit, TermsAreSmall, TermsFit}
 use Rattle.lx_emission.proofs.Operands.{ExactTerm, operand_exact}
@@ -166,7 +171,7 @@ slice_exact w s n low high t z (Literal bits signed value) l x h k =
 slice_exact w s n low high t z (Net m) l x h k =
     let len = high - low in
     let P : VExpr → Type 0 = λ e. Exact w len false (pos (field_of z low len)) (meaning s e) in
-    cond_both (nat_eq low 0 && nat_eq high n) (ToUnsigned (Net m)) (Select m (high - 1) low) P
+    cond_both (nat_eq low 0 && nat_eq high n) (ToUnsigned (Net m)) (PartSelect m (high - 1) low) P
     (λ e.
     let p = and_parts (nat_eq low 0) (nat_eq high n) e in
     let zero : 0 ≡ low = sym (eqb-true low 0 p.0) in
@@ -178,55 +183,85 @@ slice_exact w s n low high t z (Net m) l x h k =
     let top : low + len - 1 ≡ high - 1 = omega arith in
     subst (λ (j : ℕ). Exact w len false (pos (field_of z low len)) (verilog.select m j low)) top
     (exact_select w m n low len z (pattern_of w n t z (s m).bits (s m).signed (λ u. u.nets m) x) (omega arith) (omega arith)))
-slice_exact w s n low high t z (Select m hi lo) l x h k = absurd (cc)
-slice_exact w s n low high t z (Word m i) l x h k = absurd (cc)
-slice_exact w s n low high t z (tree.Unary o a) l x h k = absurd (cc)
-slice_exact w s n low high t z (tree.Binary a o b) l x h k = absurd (cc)
-slice_exact w s n low high t z (Choose c a b) l x h k = absurd (cc)
-slice_exact w s n low high t z (Concat a more) l x h k = absurd (cc)
-slice_exact w s n low high t z (Repeat c a) l x h k = absurd (cc)
-slice_exact w s n low high t z (ToSigned a) l x h k = absurd (cc)
-slice_exact w s n low high t z (ToUnsigned a) l x h k = absurd (cc)
+slice_exact w s n low high t z e l x h k = absurd (cc)
 
 -- ---- nodes
 
 replicate_exact : (w : Valuation) (s : Sizes) (a : Shape) (count : ℕ) (z : ℤ) (e : VExpr) → replicate_fault a count ≡ None → Exact w a.bits a.signed z (meaning s e)
-    → Exact w (count * a.bits) false (replicate_value a count z) (meaning s (Repeat count e))
+    → Exact w (count * a.bits) false (replicate_value a count z) (meaning s (Replication count e))
 replicate_exact w s a count z e f x =
     let p = by_test_none (nat_eq count 0) BadWidth (too_wide (count * a.bits)) f in
     exact_repeat w a count z (meaning s e) x (omega (arith, eqb-false count 0 p.0))
 
+-- ---- reads of memories
+
+-- a read's text stands exactly for its word
+abbrev ReadStands : Valuation → Sizes → Shapes → Values → (ℕ → Name) → (ℕ → Term) → (ℕ → VExpr) → Expr → Type 0
+ReadStands w s h v m t o (Fetch memory width at) =
+    Exact w width false (wrapped (unsigned width) (v (Place.Word memory (count_of (value_of h v (t at.place)))))) (meaning s (Word (m memory) (o at.place)))
+ReadStands w s h v m t o _ = Unit {0}
+
+read_stands : (d : Design) (names : List Name) (s : Sizes) (v : Values) (w : Valuation) → Keeps d → DeclaresNets d names s → HasPatterns d names v w → TermsAreSmall d
+    → (k : ℕ) (x : Expr) → slice_get d.exprs k ≡ Some x → HasIndex d x → EachChild (λ j. ExactTerm w (shapes d) v (term d j) (meaning s (operand d names j))) x
+    → ReadStands w s (shapes d) v (memory_name d names) (term d) (operand d names) x
+unfolding node_shape
+read_stands d names s v w keeps declares has small k (Fetch memory width at) e plain c =
+    let is = fetch_at d keeps k memory width at e in
+    let n = memory_name d names memory in
+    let own = memory_at d memory in
+    let a = shape_of (shapes d) (term d at.place) in
+    let z = value_of (shapes d) v (term d at.place) in
+    let i = meaning s (operand d names at.place) in
+    let index : Exact w a.bits false z i = subst (λ (t : Bool). Exact w a.bits t z i) plain c in
+    let some : 1 ≤ own.width = omega (arith, is.width, (small.each k (slice_get_within d.exprs k (Fetch memory width at) e)).some, ap (λ (b : Shape). b.bits) (shape_is d keeps k (Fetch memory width at) e)) in
+    let word = word_exact w n own.width own.depth a.bits (λ b. v (Place.Word memory b)) z i some (has.memories memory is.there) index in
+    subst (λ (j : ℕ). Exact w j false (wrapped (unsigned j) (v (Place.Word memory (count_of z)))) (meaning s (Word n (operand d names at.place)))) is.width
+    (subst (λ (b : Declared). Exact w own.width false (wrapped (unsigned own.width) (v (Place.Word memory (count_of z)))) (verilog.word b n i)) (sym (declares.memories memory is.there)) word)
+read_stands d names s v w keeps declares has small k (Const value bits signed) e plain c = tt
+read_stands d names s v w keeps declares has small k (Sig x) e plain c = tt
+read_stands d names s v w keeps declares has small k (Unary op of) e plain c = tt
+read_stands d names s v w keeps declares has small k (Binary op left right) e plain c = tt
+read_stands d names s v w keeps declares has small k (Mux cond then_ else_) e plain c = tt
+read_stands d names s v w keeps declares has small k (Cat parts) e plain c = tt
+read_stands d names s v w keeps declares has small k (Pick items index) e plain c = tt
+read_stands d names s v w keeps declares has small k (Replicate of count) e plain c = tt
+read_stands d names s v w keeps declares has small k (Slice of low high) e plain c = tt
+
+-- ---- every node with a net
+
 -- the text of a node gives the node's net the bits of its value, where its operands stand exactly for theirs
-node_drives : (w : Valuation) (s : Sizes) (h : Shapes) (v : Values) (t : ℕ → Term) (o : ℕ → VExpr) (x : Expr)
+node_drives : (w : Valuation) (s : Sizes) (h : Shapes) (v : Values) (m : ℕ → Name) (t : ℕ → Term) (o : ℕ → VExpr) (x : Expr)
     → ((j : ℕ) → is_leaf (o j) ≡ true) → has_net x ≡ true → is_no_pick x ≡ true → TakesOperands x → HasParts x → fault_of h (node_term t x) ≡ None
-    → EachChild (λ j. ExactTerm w h v (t j) (meaning s (o j))) x
-    → Drives w (shape_of h (node_term t x)).bits (value_of h v (node_term t x)) (meaning s (node_text_of (λ j. shape_of h (t j)) o (Some x)))
-node_drives w s h v t o (Const value bits signed) leaf n l f p e c = absurd (cc)
-node_drives w s h v t o (Sig x) leaf n l f p e c = absurd (cc)
-node_drives w s h v t o (Pick items index) leaf n l f p e c = absurd (cc)
-node_drives w s h v t o (Unary g of) leaf n l f p e c =
+    → EachChild (λ j. ExactTerm w h v (t j) (meaning s (o j))) x → ReadStands w s h v m t o x
+    → Drives w (shape_of h (node_term t x)).bits (value_of h v (node_term t x)) (meaning s (node_text_of m (λ j. shape_of h (t j)) o (Some x)))
+node_drives w s h v m t o (Const value bits signed) leaf n l f p e c r = absurd (cc)
+node_drives w s h v m t o (Sig x) leaf n l f p e c r = absurd (cc)
+node_drives w s h v m t o (Pick items index) leaf n l f p e c r = absurd (cc)
+node_drives w s h v m t o (Unary g of) leaf n l f p e c r =
     unary_text_drives w s g (shape_of h (t of.place)) (value_of h v (t of.place)) (o of.place) f c
-node_drives w s h v t o (Binary g left right) leaf n l f p e c =
+node_drives w s h v m t o (Binary g left right) leaf n l f p e c r =
     let a = shape_of h (t left.place) in
     let b = shape_of h (t right.place) in
     let own_fault = none_right (fault_of h (t right.place)) (binary_fault g a b) (none_right (fault_of h (t left.place)) (or_else (fault_of h (t right.place)) (binary_fault g a b)) e) in
     binary_text_drives w s g a b (value_of h v (t left.place)) (value_of h v (t right.place)) (o left.place) (o right.place) f (takes_right g a b own_fault) c.0 c.1
-node_drives w s h v t o (Mux cond so other) leaf n l f p e c =
-    choice_text_drives w s (shape_of h (t cond.place)) (shape_of h (t so.place)) (shape_of h (t other.place)) (value_of h v (t cond.place)) (value_of h v (t so.place)) (value_of h v (t other.place))
-    (o cond.place) (o so.place) (o other.place) c.0 c.1.0 c.1.1
-node_drives w s h v t o (Cat parts) leaf n l f p e c =
+node_drives w s h v m t o (Mux cond then_ else_) leaf n l f p e c r =
+    choice_text_drives w s (shape_of h (t cond.place)) (shape_of h (t then_.place)) (shape_of h (t else_.place)) (value_of h v (t cond.place)) (value_of h v (t then_.place)) (value_of h v (t else_.place))
+    (o cond.place) (o then_.place) (o else_.place) c.0 c.1.0 c.1.1
+node_drives w s h v m t o (Cat parts) leaf n l f p e c r =
     exact_drives w (bits_sum (shapes_of h (terms_at t parts))) false (pos (cat_pattern (shapes_of h (terms_at t parts)) (values_of h v (terms_at t parts)))) (meaning s (cat_text o parts))
     (cat_exact w s h v t o parts p c)
-node_drives w s h v t o (Replicate of count) leaf n l f p e c =
+node_drives w s h v m t o (Replicate of count) leaf n l f p e c r =
     let a = shape_of h (t of.place) in
-    exact_drives w (count * a.bits) false (replicate_value a count (value_of h v (t of.place))) (meaning s (Repeat count (o of.place)))
+    exact_drives w (count * a.bits) false (replicate_value a count (value_of h v (t of.place))) (meaning s (Replication count (o of.place)))
     (replicate_exact w s a count (value_of h v (t of.place)) (o of.place) (none_right (fault_of h (t of.place)) (replicate_fault a count) e) c)
-node_drives w s h v t o (Slice of low high) leaf n l f p e c =
+node_drives w s h v m t o (Slice of low high) leaf n l f p e c r =
     let a = shape_of h (t of.place) in
     let z = value_of h v (t of.place) in
     let inside = slice_inside a low high (none_right (fault_of h (t of.place)) (slice_fault a low high) e) in
     exact_drives w (high - low) false (pos (field_of z low (high - low))) (meaning s (slice_text (o of.place) a.bits low high))
     (slice_exact w s a.bits low high a.signed z (o of.place) (leaf of.place) c inside.0 inside.1)
+node_drives w s h v m t o (Fetch memory width at) leaf n l f p e c r =
+    exact_drives w width false (wrapped (unsigned width) (v (Place.Word memory (count_of (value_of h v (t at.place)))))) (meaning s (Word (m memory) (o at.place))) r
 
 operand_leaf : (names : List Name) (n : Name) (x : Option Expr) → is_leaf (operand_of names n x) ≡ true
 operand_leaf names n None = refl
@@ -241,27 +276,28 @@ operand-is_leaf d names k = operand_leaf names (node_net d.exprs k) (slice_get d
 
 -- The text of each operator and slice gives its net the bits of the node's value.
 pub node_text_stands : (d : Design) (names : List Name) (s : Sizes) (v : Values) (w : Valuation)
-    → Keeps d → IsLowered d → DeclaresNets d names s → HasPatterns d names v w → SignalsFit d v → TermsAreSmall d → TermsFit d v
+    → Keeps d → IsLowered d → MemoriesFit d → DeclaresNets d names s → HasPatterns d names v w → SignalsFit d v → TermsAreSmall d → TermsFit d v
     → (k : ℕ) → IsNetNode d k → Drives w (node_shape d k).bits (value_of (shapes d) v (term d k)) (meaning s (node_text d names k))
 unfolding node_shape node_text
-node_text_stands d names s v w keeps lowered declares has fits small fit k node =
+node_text_stands d names s v w keeps lowered memories declares has fits small fit k node =
     let x = node.node in
     let there = node.there in
     let h = shapes d in
     let within = slice_get_within d.exprs k x there in
-    let is = term_at-is d.exprs keeps.exprs_lower k x there in
+    let is = term_at-is d.exprs keeps.arenas.exprs_lower k x there in
     let P : ℕ → Type 0 = λ j. ExactTerm w h v (term d j) (meaning s (operand d names j)) in
     let below : (j : ℕ) → j < k → P j = λ j l. operand_exact d names s v w keeps lowered declares has fits small fit j (omega arith) in
-    let Q : Option Expr → Type 0 = λ o. Drives w (shape_of h (term d k)).bits (value_of h v (term d k)) (meaning s (node_text_of (λ j. shape_of h (term d j)) (operand d names) o)) in
-    let R : Term → Type 0 = λ t. Drives w (shape_of h t).bits (value_of h v t) (meaning s (node_text_of (λ j. shape_of h (term d j)) (operand d names) (Some x))) in
+    let Q : Option Expr → Type 0 = λ o. Drives w (shape_of h (term d k)).bits (value_of h v (term d k)) (meaning s (node_text_of (memory_name d names) (λ j. shape_of h (term d j)) (operand d names) o)) in
+    let R : Term → Type 0 = λ t. Drives w (shape_of h t).bits (value_of h v t) (meaning s (node_text_of (memory_name d names) (λ j. shape_of h (term d j)) (operand d names) (Some x))) in
     subst Q (sym there) (subst R (sym is)
-    (node_drives w s h v (term d) (operand d names) x (operand-is_leaf d names) node.net (lowered.exprs k x there) (keeps.operands k x there) (keeps.parts k x there)
-    (ap (fault_of h) (sym is) ∙ keeps.shaped k within)
-    (each_child P k x below (lower_at d.exprs keeps.exprs_lower k x there))))
+    (let children = each_child P k x below (lower_at expr_below d.exprs keeps.arenas.exprs_lower k x there) in
+    node_drives w s h v (memory_name d names) (term d) (operand d names) x (operand-is_leaf d names) node.net (lowered.exprs k x there) (keeps.arenas.operands k x there) (keeps.arenas.parts k x there)
+    (ap (fault_of h) (sym is) ∙ keeps.arenas.shaped k within)
+    children (read_stands d names s v w keeps declares has small k x there (memories.indices k x there) children)))
 
 -- The net of each operator and slice takes the pattern of the node's value.
 pub node_text_drives : (d : Design) (names : List Name) (s : Sizes) (v : Values) (w : Valuation)
-    → Keeps d → IsLowered d → DeclaresNets d names s → HasPatterns d names v w → SignalsFit d v → TermsAreSmall d → TermsFit d v
+    → Keeps d → IsLowered d → MemoriesFit d → DeclaresNets d names s → HasPatterns d names v w → SignalsFit d v → TermsAreSmall d → TermsFit d v
     → (k : ℕ) → IsNetNode d k → assigned s w (node_shape d k).bits (node_text d names k) ≡ modulo (value_of (shapes d) v (term d k)) (2 ^ (node_shape d k).bits)
-node_text_drives d names s v w keeps lowered declares has fits small fit k node =
-    drives_net w (node_shape d k).bits (value_of (shapes d) v (term d k)) (meaning s (node_text d names k)) (node_text_stands d names s v w keeps lowered declares has fits small fit k node)
+node_text_drives d names s v w keeps lowered memories declares has fits small fit k node =
+    drives_net w (node_shape d k).bits (value_of (shapes d) v (term d k)) (meaning s (node_text d names k)) (node_text_stands d names s v w keeps lowered memories declares has fits small fit k node)

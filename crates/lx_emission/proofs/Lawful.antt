@@ -1,5 +1,5 @@
 -- The texts of a design have names that are names, literals in their bounds, and few brackets.
-use Rattle.std.proofs.Common.{◌≡◌, ℕ, Bool, true, false, ◌&&◌, ◌||◌, not, cond, eqb, List, [], ◌∷◌, ◌++◌, ◌-◌, ◌/◌, ◌%◌, ◌^◌, ◌<◌, ◌≤◌, length, zero, suc, refl, sym, ◌∙◌, ap, subst, arith, codes}
+use Rattle.std.proofs.Common.{◌≡◌, ℕ, Bool, true, false, ◌&&◌, ◌||◌, not, cond, eqb, List, [], ◌∷◌, ◌++◌, ◌+◌, ◌-◌, ◌/◌, ◌%◌, ◌^◌, ◌<◌, ◌≤◌, length, zero, suc, refl, sym, ◌∙◌, ap, subst, arith, codes}
 use Rattle.std.specs.Prelude.{Some, slice_get, slice_index, slice_index_or, IsTrue, nat_eq, nat_le, nat_lt, if◌then◌else◌}
 use Rattle.std.specs.List.{list_all, list_any}
 use Rattle.std.specs.Str.{bytes_eq}
@@ -11,7 +11,6 @@ use Rattle.lx_num.specs.Ints.{modulo}
 use Rattle.lx_num.proofs.Ints.{modulo-below}
 use Rattle.lx_tables.specs.declared.operators.Op.TheVariants as op
 use Rattle.lx_tables.specs.Operators.{row_of, mix_of}
-use Rattle.lx_tables.specs.PythonWords.{is_python_word}
 use Rattle.lx_tables.specs.VerilogWords.{verilog_words, is_verilog_word}
 use Rattle.lx_vtext.specs.Names.{is_digit, is_name_start, is_name_byte, is_spelled, is_name}
 use Rattle.lx_vtext.specs.Tree as tree
@@ -19,20 +18,21 @@ use Rattle.lx_vtext.specs.Tree.{Name, VExpr, VExprs, NoMore, More, Net, Literal}
 use Rattle.lx_vtext.specs.Printed.{number_text}
 use Rattle.lx_vtext.specs.Fits.{is_literal, IsExpr, AreExprs, IsValue}
 use Rattle.lx_vtext.proofs.Pieces.{number_back, bytes_eq_is}
-use Rattle.lx_fhdl.specs.Below.{ExprId}
+use Rattle.lx_fhdl.specs.Below.{ExprId, expr_below}
 use Rattle.lx_fhdl.specs.Nodes.{IsSmall, EachPlace, EachChild}
 use Rattle.lx_fhdl.specs.Keeping.{is_first, is_later, is_identifier, Keeps}
 use Rattle.lx_fhdl.specs.Keeping as keeping
 use Rattle.lx_fhdl.specs.Lowered.{IsLowered}
 use Rattle.lx_fhdl.specs.declared.exprs.Expr.{Expr}
-use Rattle.lx_fhdl.specs.declared.exprs.Expr.TheVariants.{Const, Sig, Unary, Binary, Mux, Cat, Pick, Replicate, Slice}
+use Rattle.lx_fhdl.specs.declared.exprs.Expr.TheVariants.{Const, Sig, Unary, Binary, Mux, Cat, Pick, Replicate, Slice, Fetch}
 use Rattle.lx_fhdl.specs.declared.design.Design.{Design}
-use Rattle.lx_fhdl.proofs.Arena.{each_child, lower_at, node_there}
-use Rattle.lx_emission.specs.Naming.{net, has_net, nets_before, node_name, node_net, clock_name, NamesFit}
+use Rattle.lx_fhdl.proofs.Arena.{each_child}
+use Rattle.lx_arena.proofs.Places.{lower_at, node_there}
+use Rattle.lx_emission.specs.Naming.{net, has_net, nets_before, node_name, node_net, clock_name, memory_name, NamesFit}
 use Rattle.lx_emission.specs.Nodes.{node_shape, operand, operand_of, wide_if, parts_onto, concat_of, cat_text, slice_text, node_text_of, node_text}
 use Rattle.lx_emission.specs.Signals.{literal_of, reset_text, shape_of_signal, reset_of_signal}
 use Rattle.lx_emission.proofs.Setting.{IsNetNode, TermsAreSmall, OperandsAreLawful}
-use Rattle.lx_emission.proofs.Reading.{operand_is, node_text_is, shape_is, is_cat}
+use Rattle.lx_emission.proofs.Reading.{operand_is, node_text_is, shape_is, is_cat, fetch_at}
 use Rattle.lx_emission.proofs.Fitting.{signal_bits}
 
 -- ---- names
@@ -101,7 +101,7 @@ later_are_bytes (b ∷ bs) h =
     let same : (is_name_start b || is_digit b) ≡ is_later b = ap (λ t. t || is_digit b) (sym (first_is_start b)) in
     and_from (is_name_byte b) (list_all is_name_byte (bs ++ codes "_clk")) (or_left (is_name_start b || is_digit b) (eqb b 36) (same ∙ p.0)) (later_are_bytes bs p.1)
 
-clock_spelled : (name : List ℕ) → keeping.is_spelled name ≡ true → is_spelled (name ++ codes "_clk") ≡ true
+clock_spelled : (name : List ℕ) → is_identifier name ≡ true → is_spelled (name ++ codes "_clk") ≡ true
 clock_spelled [] h = absurd cc
 clock_spelled (b ∷ bs) h =
     let p = and_parts (is_first b) (list_all is_later bs) h in
@@ -115,8 +115,7 @@ clock_ends (b ∷ bs) = or_right (bytes_eq (b ∷ (bs ++ codes "_clk")) (codes "
 pub clock_name_lawful : (name : List ℕ) → IsTrue (is_identifier name) → IsTrue (is_name (clock_name name))
 unfolding clock_name
 clock_name_lawful name h =
-    let p = and_parts (keeping.is_spelled name) (not (is_python_word name)) h in
-    no_word (λ w. not (ends_as_clock w)) (name ++ codes "_clk") (clock_spelled name p.0) no_clocks (ap (λ t. not t) (clock_ends name))
+    no_word (λ w. not (ends_as_clock w)) (name ++ codes "_clk") (clock_spelled name h) no_clocks (ap (λ t. not t) (clock_ends name))
 
 all_at : (p : Name → Bool) (ns : List Name) (x : ℕ) → list_all (λ n. p n) ns ≡ true → x < length ns → p (slice_index_or ns x []) ≡ true
 all_at p [] x h lt = absurd (omega arith)
@@ -126,6 +125,10 @@ all_at p (n ∷ ns) (suc x) h lt = all_at p ns x (and_parts (p n) (list_all (λ 
 -- the net of a signal has a name
 pub net_lawful : (d : Design) (names : List Name) → NamesFit d names → (x : ℕ) → x < length d.signals → IsTrue (is_name (net names x))
 net_lawful d names fit x h = all_at is_name names x fit.lawful (omega (arith, fit.long))
+
+-- so has a memory
+pub memory_lawful : (d : Design) (names : List Name) → NamesFit d names → (k : ℕ) → k < length d.memories → IsTrue (is_name (memory_name d names k))
+memory_lawful d names fit k h = all_at is_name names (length d.signals + k) fit.lawful (omega (arith, fit.long))
 
 -- ---- operands
 
@@ -146,14 +149,8 @@ operand_of_lawful : (d : Design) (names : List Name) → Keeps d → NamesFit d 
 operand_of_lawful d names keeps fit k b (Const value bits signed) e small =
     let same : (node_shape d k).bits ≡ bits = ap (λ (a : Shape). a.bits) (shape_is d keeps k (Const value bits signed) e) in
     literal_is_expr b bits (modulo value (2 ^ bits)) signed (literal_lawful bits (modulo value (2 ^ bits)) (omega (arith, small.some)) (omega (arith, small.most)) (modulo-below value (2 ^ bits) (pow_pos bits)))
-operand_of_lawful d names keeps fit k b (Sig x) e small = net_is_expr b (net names x.0) (net_lawful d names fit x.0 (keeps.named k (Sig x) e))
-operand_of_lawful d names keeps fit k b (Unary op of) e small = node_is_expr d k b
-operand_of_lawful d names keeps fit k b (Binary op left right) e small = node_is_expr d k b
-operand_of_lawful d names keeps fit k b (Mux cond so other) e small = node_is_expr d k b
-operand_of_lawful d names keeps fit k b (Cat parts) e small = node_is_expr d k b
-operand_of_lawful d names keeps fit k b (Pick items index) e small = node_is_expr d k b
-operand_of_lawful d names keeps fit k b (Replicate of count) e small = node_is_expr d k b
-operand_of_lawful d names keeps fit k b (Slice of low high) e small = node_is_expr d k b
+operand_of_lawful d names keeps fit k b (Sig x) e small = net_is_expr b (net names x.0) (net_lawful d names fit x.0 (keeps.arenas.named k (Sig x) e))
+operand_of_lawful d names keeps fit k b x e small = node_is_expr d k b
 
 operand_lawful : (d : Design) (names : List Name) → Keeps d → NamesFit d names → TermsAreSmall d → (k b : ℕ) → k < length d.exprs → IsExpr b (operand d names k)
 operand_lawful d names keeps fit small k b within =
@@ -179,18 +176,10 @@ slice_lawful (tree.Literal b signed value) bits low high bare p q =
     literal_lawful (high - low) (value / 2 ^ low % 2 ^ (high - low)) p q (mod_below (value / 2 ^ low) (2 ^ (high - low)) (pow_pos (high - low)))
 slice_lawful (tree.Net n) bits low high bare p q = by_cover (nat_eq low 0 && nat_eq high bits)
   where
-    by_cover : (b : Bool) → IsExpr 32 (if b then tree.ToUnsigned (tree.Net n) else tree.Select n (high - 1) low)
+    by_cover : (b : Bool) → IsExpr 32 (if b then tree.ToUnsigned (tree.Net n) else tree.PartSelect n (high - 1) low)
     by_cover true = bare 31
     by_cover false = bare 31
-slice_lawful (tree.Select k hi lo) bits low high bare p q = bare 31
-slice_lawful (tree.Word k index) bits low high bare p q = bare 31
-slice_lawful (tree.Unary op of) bits low high bare p q = bare 31
-slice_lawful (tree.Binary a op b) bits low high bare p q = bare 31
-slice_lawful (tree.Choose c a b) bits low high bare p q = bare 31
-slice_lawful (tree.Concat first more) bits low high bare p q = bare 31
-slice_lawful (tree.Repeat count of) bits low high bare p q = bare 31
-slice_lawful (tree.ToSigned of) bits low high bare p q = bare 31
-slice_lawful (tree.ToUnsigned of) bits low high bare p q = bare 31
+slice_lawful e bits low high bare p q = bare 31
 
 parts_lawful : (b : ℕ) (o : ℕ → VExpr) (parts : List ExprId) (done : VExprs) → EachPlace (λ k. IsBare (o k)) parts → AreExprs b done → AreExprs b (parts_onto o parts done)
 parts_lawful b o [] done each h = h
@@ -203,22 +192,24 @@ cat_lawful o parts some each =
 
 -- the text of a node, whose operands have no brackets
 node_of_lawful : (d : Design) (names : List Name) → Keeps d → IsLowered d → (k : ℕ) (x : Expr) → slice_get d.exprs k ≡ Some x → has_net x ≡ true → IsSmall (node_shape d k) → EachChild (λ i. IsBare (operand d names i)) x
-    → IsExpr 32 (node_text_of (node_shape d) (operand d names) (Some x))
-node_of_lawful d names keeps lowered k (Const value bits signed) e has small each = absurd cc
-node_of_lawful d names keeps lowered k (Sig x) e has small each = absurd cc
-node_of_lawful d names keeps lowered k (Unary op of) e has small each = wide_lawful 29 (row_of op (mix_of (node_shape d of.place).signed (node_shape d of.place).signed)).widen_left (operand d names of.place) each
-node_of_lawful d names keeps lowered k (Binary op left right) e has small each =
+    → NamesFit d names → IsExpr 32 (node_text_of (memory_name d names) (node_shape d) (operand d names) (Some x))
+node_of_lawful d names keeps lowered k (Const value bits signed) e has small each fit = absurd cc
+node_of_lawful d names keeps lowered k (Sig x) e has small each fit = absurd cc
+node_of_lawful d names keeps lowered k (Unary op of) e has small each fit = wide_lawful 29 (row_of op (mix_of (node_shape d of.place).signed (node_shape d of.place).signed)).widen_left (operand d names of.place) each
+node_of_lawful d names keeps lowered k (Binary op left right) e has small each fit =
     let r = row_of op (mix_of (node_shape d left.place).signed (node_shape d right.place).signed) in
     (wide_lawful 29 r.widen_left (operand d names left.place) each.0, wide_lawful 29 r.widen_right (operand d names right.place) each.1)
-node_of_lawful d names keeps lowered k (Mux cond so other) e has small each =
-    let r = row_of op.Mux (mix_of (node_shape d so.place).signed (node_shape d other.place).signed) in
-    (each.0 31, wide_lawful 29 r.widen_left (operand d names so.place) each.1.0, wide_lawful 29 r.widen_right (operand d names other.place) each.1.1)
-node_of_lawful d names keeps lowered k (Cat parts) e has small each = cat_lawful (operand d names) parts (keeps.parts k (Cat parts) e) each
-node_of_lawful d names keeps lowered k (Pick items index) e has small each = let no = lowered.exprs k (Pick items index) e in absurd cc
-node_of_lawful d names keeps lowered k (Replicate of count) e has small each = each 30
-node_of_lawful d names keeps lowered k (Slice of low high) e has small each =
+node_of_lawful d names keeps lowered k (Mux cond then_ else_) e has small each fit =
+    let r = row_of op.Mux (mix_of (node_shape d then_.place).signed (node_shape d else_.place).signed) in
+    (each.0 31, wide_lawful 29 r.widen_left (operand d names then_.place) each.1.0, wide_lawful 29 r.widen_right (operand d names else_.place) each.1.1)
+node_of_lawful d names keeps lowered k (Cat parts) e has small each fit = cat_lawful (operand d names) parts (keeps.arenas.parts k (Cat parts) e) each
+node_of_lawful d names keeps lowered k (Pick items index) e has small each fit = let no = lowered.exprs k (Pick items index) e in absurd cc
+node_of_lawful d names keeps lowered k (Replicate of count) e has small each fit = each 30
+node_of_lawful d names keeps lowered k (Slice of low high) e has small each fit =
     let same : (node_shape d k).bits ≡ high - low = ap (λ (a : Shape). a.bits) (shape_is d keeps k (Slice of low high) e) in
     slice_lawful (operand d names of.place) (node_shape d of.place).bits low high each (omega (arith, small.some)) (omega (arith, small.most))
+node_of_lawful d names keeps lowered k (Fetch memory width at) e has small each fit =
+    (memory_lawful d names fit memory (fetch_at d keeps k memory width at e).there, each 31)
 
 -- the text of each node has few brackets
 pub node_text_lawful : (d : Design) (names : List Name) → Keeps d → IsLowered d → NamesFit d names → TermsAreSmall d → (k : ℕ) → IsNetNode d k → IsExpr 32 (node_text d names k)
@@ -227,7 +218,7 @@ node_text_lawful d names keeps lowered fit small k is_node =
     let within = slice_get_within d.exprs k x is_node.there in
     subst (λ (v : VExpr). IsExpr 32 v) (sym (node_text_is d names k x is_node.there))
     (node_of_lawful d names keeps lowered k x is_node.there is_node.net (small.each k within)
-    (each_child (λ i. IsBare (operand d names i)) k x (λ i below b. operand_lawful d names keeps fit small i b (let inside : i < length d.exprs = omega arith in inside)) (lower_at d.exprs keeps.exprs_lower k x is_node.there)))
+    (each_child (λ i. IsBare (operand d names i)) k x (λ i below b. operand_lawful d names keeps fit small i b (let inside : i < length d.exprs = omega arith in inside)) (lower_at expr_below d.exprs keeps.arenas.exprs_lower k x is_node.there)) fit)
 
 -- ---- reset values
 

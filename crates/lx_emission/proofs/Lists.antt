@@ -1,30 +1,23 @@
 -- Lists of names, and what is collected by name from lists.
 use Rattle.std.proofs.Common.{◌≡◌, ℕ, zero, suc, ◌<◌, ◌≤◌, ◌+◌, Bool, true, false, not, ◌&&◌, ◌||◌, cond, List, [], ◌∷◌, ◌++◌, length, map, flat_map, refl, ap, ◌∙◌, arith, inl, inr}
 use Rattle.std.specs.Prelude.{Option, Some, None, slice_get}
-use Rattle.std.specs.List.{list_all, list_any, AllByRecursion}
+use Rattle.std.specs.List.{list_all, list_any, range_with_len, AllByRecursion}
 use Rattle.std.specs.Str.{bytes_eq}
-use Rattle.std.proofs.lemmas.Bool.{and_parts, cases_eq}
+use Rattle.std.proofs.lemmas.Bool.{and_parts, cases_eq, not-true}
 use Rattle.std.proofs.lemmas.List.{append-nil, map-append}
 use Rattle.std.proofs.lemmas.Slice.Eq.{bytes_eq-Decides}
 use Rattle.lx_vtext.specs.Tree.{Name, VNet, VPort, VDecl, NetDecl, MemoryDecl, VAssign, VAlways}
 use Rattle.lx_vmeaning.specs.Runs.{decl_nets, decl_memories, net_named, outside_drivers, assign_drivers, block_drivers, always_driver, sets_block, Driver, Outside, ByAssign}
-use Rattle.lx_vmeaning.specs.Cycle as cycle
+use Rattle.lx_vmeaning.specs.Naming as naming
+use Rattle.lx_vmeaning.proofs.Declared.{is_among, are_distinct}
 use Rattle.lx_fhdl.specs.Keeping.{is_distinct}
 use Rattle.lx_emission.specs.Emission.{places_from}
 
 -- ---- tests
 
-pub by_test : {P : Type 0} (b : Bool) → (b ≡ true → P) → (b ≡ false → P) → P
-by_test true p q = p refl
-by_test false p q = q refl
-
 pub is_false : (b : Bool) → (b ≡ true → ⊥) → b ≡ false
 is_false true h = absurd (h refl)
 is_false false h = refl
-
-pub not_true : (b : Bool) → not b ≡ true → b ≡ false
-not_true true e = absurd cc
-not_true false e = refl
 
 -- ---- names
 
@@ -59,12 +52,12 @@ one_place (m ∷ ms) h zero zero n p q = refl
 one_place (m ∷ ms) h zero (suc k) n p q =
     let same : m ≡ n = cc in
     let some = is_there n ms k q in
-    let none = not_true (list_any (bytes_eq m) ms) (and_parts (not (list_any (bytes_eq m) ms)) (is_distinct ms) h).0 in
+    let none = not-true (list_any (bytes_eq m) ms) (and_parts (not (list_any (bytes_eq m) ms)) (is_distinct ms) h).0 in
     absurd cc
 one_place (m ∷ ms) h (suc j) zero n p q =
     let same : m ≡ n = cc in
     let some = is_there n ms j p in
-    let none = not_true (list_any (bytes_eq m) ms) (and_parts (not (list_any (bytes_eq m) ms)) (is_distinct ms) h).0 in
+    let none = not-true (list_any (bytes_eq m) ms) (and_parts (not (list_any (bytes_eq m) ms)) (is_distinct ms) h).0 in
     absurd cc
 one_place (m ∷ ms) h (suc j) (suc k) n p q =
     ap suc (one_place ms (and_parts (not (list_any (bytes_eq m) ms)) (is_distinct ms) h).1 j k n p q)
@@ -132,6 +125,15 @@ each_at_places P g k [] h = tt
 each_at_places P g k (x ∷ xs) h =
     each_of_two P (g k) (flat_map g (places_from (k + 1) xs)) (h k (omega arith) (omega arith))
     (each_at_places P g (k + 1) xs (λ j p q. h j (omega arith) (omega arith)))
+
+pub each_mapped_places : {A T : Type 0} (P : A → Type 0) (f : ℕ → A) (k : ℕ) (xs : List T) → ((j : ℕ) → k ≤ j → j < k + length xs → P (f j)) → AllByRecursion P (map f (places_from k xs))
+each_mapped_places P f k [] h = tt
+each_mapped_places P f k (x ∷ xs) h = (h k (omega arith) (omega arith), each_mapped_places P f (k + 1) xs (λ j p q. h j (omega arith) (omega arith)))
+
+-- what holds of each of so many, from a on
+pub each_counted : {A : Type 0} (P : A → Type 0) (g : ℕ → A) (a n : ℕ) → ((k : ℕ) → a ≤ k → k < a + n → P (g k)) → AllByRecursion P (map g (range_with_len a n))
+each_counted P g a zero h = tt
+each_counted P g a (suc n) h = (h a (omega arith) (omega arith), each_counted P g (a + 1) n (λ k p q. h k (omega arith) (omega arith)))
 
 pub each_mapped : {A B : Type 0} (P : B → Type 0) (f : A → B) (xs : List A) → AllByRecursion (λ x. P (f x)) xs → AllByRecursion P (map f xs)
 each_mapped P f [] h = tt
@@ -212,15 +214,6 @@ net_named_is n (x ∷ xs) = by (bytes_eq x.name n) (net_named_is n xs)
     by true h = refl
     by false h = h
 
--- a name that no net has is not among the nets' names
-not_among : (n : Name) (xs : List VNet) → called n xs ≡ [] → list_any (λ k. bytes_eq k n) (map (λ x. x.name) xs) ≡ false
-not_among n [] h = refl
-not_among n (x ∷ xs) h = by (bytes_eq x.name n) h (not_among n xs)
-  where
-    by : (b : Bool) → cond b (x ∷ called n xs) (called n xs) ≡ [] → (called n xs ≡ [] → list_any (λ k. bytes_eq k n) (map (λ y. y.name) xs) ≡ false) → (b || list_any (λ k. bytes_eq k n) (map (λ y. y.name) xs)) ≡ false
-    by true h ih = absurd cc
-    by false h ih = ih h
-
 -- at most one
 abbrev pub is_once : {A : Type 0} → List A → Bool
 is_once [] = true
@@ -235,17 +228,75 @@ once_after : {A : Type 0} (x : A) (xs : List A) → is_once (x ∷ xs) ≡ true 
 once_after x [] h = refl
 once_after x (y ∷ ys) h = absurd cc
 
--- names are distinct where each is the name of at most one net
-pub distinct_from_once : (xs : List VNet) → ((n : Name) → is_once (called n xs) ≡ true) → cycle.is_distinct (map (λ x. x.name) xs) ≡ true
-distinct_from_once [] h = refl
-distinct_from_once (x ∷ xs) h =
-    let own : is_once (x ∷ called x.name xs) ≡ true = rw (name_same x.name x.name refl) at (h x.name) in
-    let none = not_among x.name xs (once_alone x (called x.name xs) own) in
-    rw none (distinct_from_once xs (λ n. by (bytes_eq x.name n) n (h n)))
+-- ---- declarations of a name
+
+-- the names of a list that are this one
+abbrev pub matching : Name → List Name → List Name
+matching n [] = []
+matching n (k ∷ ks) = cond (bytes_eq k n) (k ∷ matching n ks) (matching n ks)
+
+matching_joined : (n : Name) (xs ys : List Name) → matching n (xs ++ ys) ≡ matching n xs ++ matching n ys
+matching_joined n [] ys = refl
+matching_joined n (x ∷ xs) ys = choice_joined (bytes_eq x n) x (matching n (xs ++ ys)) (matching n xs) (matching n ys) (matching_joined n xs ys)
+
+pub collects_matching : (n : Name) → Collects (matching n)
+collects_matching n = record { none = refl; joined = matching_joined n }
+
+abbrev pub names_of : List VNet → List Name
+names_of xs = map (λ (x : VNet). x.name) xs
+
+pub matching_called : (n : Name) (xs : List VNet) → matching n (names_of xs) ≡ names_of (called n xs)
+matching_called n [] = refl
+matching_called n (x ∷ xs) = by (bytes_eq x.name n) (matching_called n xs)
   where
-    by : (b : Bool) (n : Name) → is_once (cond b (x ∷ called n xs) (called n xs)) ≡ true → is_once (called n xs) ≡ true
-    by true n t = once_after x (called n xs) t
-    by false n t = t
+    by : (b : Bool) → matching n (names_of xs) ≡ names_of (called n xs) → cond b (x.name ∷ matching n (names_of xs)) (matching n (names_of xs)) ≡ names_of (cond b (x ∷ called n xs) (called n xs))
+    by true h = ap (λ t. x.name ∷ t) h
+    by false h = h
+
+pub names_of_three : (a b c : List VNet) → names_of (a ++ (b ++ c)) ≡ names_of a ++ (names_of b ++ names_of c)
+names_of_three a b c = map-append (λ (x : VNet). x.name) a (b ++ c) ∙ ap (λ t. names_of a ++ t) (map-append (λ (x : VNet). x.name) b c)
+
+pub map_append_three : {A B : Type 0} (f : A → B) (a b c : List A) → map f (a ++ (b ++ c)) ≡ map f a ++ (map f b ++ map f c)
+map_append_three f a b c = map-append f a (b ++ c) ∙ ap (λ t. map f a ++ t) (map-append f b c)
+
+pub join_parts : {B : Type 0} (a b c d : List B) → a ≡ c → b ≡ d → a ++ b ≡ c ++ d
+join_parts a b c d p q = ap (λ t. t ++ b) p ∙ ap (λ t. c ++ t) q
+
+none_of_joined : {B : Type 0} (a b : List B) → a ++ b ≡ [] → (a ≡ []) × (b ≡ [])
+none_of_joined [] b e = (refl, e)
+none_of_joined (x ∷ xs) b e = absurd cc
+
+pub none_of_three : {B : Type 0} (a b c : List B) → a ++ (b ++ c) ≡ [] → (a ≡ []) × (b ≡ []) × (c ≡ [])
+none_of_three a b c e =
+    let p = none_of_joined a (b ++ c) e in
+    let q = none_of_joined b c p.1 in
+    (p.0, q.0, q.1)
+
+pub once_named : (xs : List VNet) → is_once xs ≡ true → is_once (names_of xs) ≡ true
+once_named [] h = refl
+once_named (x ∷ []) h = refl
+once_named (x ∷ (y ∷ ys)) h = absurd cc
+
+-- a name that nothing has is not among the names
+not_among : (n : Name) (ns : List Name) → matching n ns ≡ [] → is_among n ns ≡ false
+not_among n [] h = refl
+not_among n (k ∷ ks) h = by (bytes_eq k n) h (not_among n ks)
+  where
+    by : (b : Bool) → cond b (k ∷ matching n ks) (matching n ks) ≡ [] → (matching n ks ≡ [] → is_among n ks ≡ false) → (b || is_among n ks) ≡ false
+    by true h ih = absurd cc
+    by false h ih = ih h
+
+-- names are distinct where each stands at most once
+pub distinct_from_once : (ns : List Name) → ((n : Name) → is_once (matching n ns) ≡ true) → are_distinct ns ≡ true
+distinct_from_once [] h = refl
+distinct_from_once (n ∷ ns) h =
+    let own : is_once (n ∷ matching n ns) ≡ true = rw (name_same n n refl) at (h n) in
+    let none = not_among n ns (once_alone n (matching n ns) own) in
+    rw none (distinct_from_once ns (λ k. by (bytes_eq n k) k (h k)))
+  where
+    by : (b : Bool) (k : Name) → is_once (cond b (n ∷ matching k ns) (matching k ns)) ≡ true → is_once (matching k ns) ≡ true
+    by true k t = once_after n (matching k ns) t
+    by false k t = t
 
 pub none_from_each : {A : Type 0} (P : A → Bool) (xs : List A) → AllByRecursion (λ x. P x ≡ false) xs → list_any P xs ≡ false
 none_from_each P [] h = refl
@@ -266,10 +317,10 @@ is_some_driver [] = false
 is_some_driver (x ∷ xs) = true
 
 -- an input drives its net from outside
-pub input_is : (n : Name) (ps : List VPort) → cycle.is_input n ps ≡ is_some_driver (outside_drivers n ps)
+pub input_is : (n : Name) (ps : List VPort) → naming.is_input n ps ≡ is_some_driver (outside_drivers n ps)
 input_is n [] = refl
 input_is n (p ∷ ps) = by (p.is_input && bytes_eq p.net.name n) (input_is n ps)
   where
-    by : (b : Bool) → cycle.is_input n ps ≡ is_some_driver (outside_drivers n ps) → (b || cycle.is_input n ps) ≡ is_some_driver (cond b (Outside ∷ outside_drivers n ps) (outside_drivers n ps))
+    by : (b : Bool) → naming.is_input n ps ≡ is_some_driver (outside_drivers n ps) → (b || naming.is_input n ps) ≡ is_some_driver (cond b (Outside ∷ outside_drivers n ps) (outside_drivers n ps))
     by true h = refl
     by false h = h

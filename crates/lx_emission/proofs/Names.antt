@@ -1,5 +1,5 @@
 -- The names of nets: no two of them are alike.
-use Rattle.std.proofs.Common.{◌≡◌, ℕ, zero, suc, ◌<◌, Bool, true, false, not, cond, List, [], ◌∷◌, length, map, refl, sym, ap, ◌∙◌, subst, arith, inl, inr}
+use Rattle.std.proofs.Common.{◌≡◌, ℕ, zero, suc, ◌+◌, ◌<◌, Bool, true, false, cond, List, [], ◌∷◌, length, map, refl, sym, ap, ◌∙◌, arith, inl, inr}
 use Rattle.std.specs.Prelude.{Some, slice_get, codes}
 use Rattle.std.specs.List.{list_all}
 use Rattle.std.proofs.lemmas.Bool.{and_parts, cases_lt}
@@ -9,15 +9,15 @@ use Rattle.lx_vtext.specs.Tree.{Name}
 use Rattle.lx_vtext.specs.Printed.{number_text}
 use Rattle.lx_vtext.specs.Reading.{number_value}
 use Rattle.lx_vtext.proofs.Pieces.{number_back}
-use Rattle.lx_fhdl.specs.Keeping.{Keeps, IsDomain, EachOf, is_spelled, is_first, is_later}
-use Rattle.lx_tables.specs.PythonWords.{is_python_word}
-use Rattle.lx_fhdl.proofs.Arena.{node_there}
+use Rattle.lx_fhdl.specs.Keeping.{Keeps, IsDomain, is_identifier, is_first, is_later}
+use Rattle.lx_arena.proofs.Places.{node_there}
 use Rattle.lx_fhdl.specs.declared.exprs.Expr.{Expr}
 use Rattle.lx_fhdl.specs.declared.design.Domain.{Domain}
 use Rattle.lx_fhdl.specs.declared.design.Design.{Design}
-use Rattle.lx_emission.specs.Naming.{net, has_net, nets_before, node_name, node_net, clock_name, clock, NamesFit}
+use Rattle.lx_emission.specs.Naming.{net, has_net, nets_before, node_name, node_net, clock_name, clock, memory_name, NamesFit}
 use Rattle.lx_emission.proofs.Setting.{IsNetNode}
 use Rattle.lx_emission.proofs.Lists.{one_place, is_there}
+use Rattle.lx_fhdl.proofs.Resets.{each_of_at}
 
 -- ---- nodes
 
@@ -61,11 +61,6 @@ node_net_once d j k p q e =
 
 -- ---- clocks
 
-pub each_of : {T : Type 0} (P : T → Type 0) (xs : List T) → EachOf P xs → (k : ℕ) (x : T) → slice_get xs k ≡ Some x → P x
-each_of P [] h k x e = absurd cc
-each_of P (y ∷ ys) h zero x e = let same : y ≡ x = cc in subst P same h.0
-each_of P (y ∷ ys) h (suc k) x e = each_of P ys h.1 k x e
-
 -- a domain, and its name
 pub record IsAt (d : Design) (k : ℕ) : Type 0 where
   pub domain : Domain
@@ -94,43 +89,65 @@ clock_once d keeps j k p q e =
 later_other : (b : ℕ) → is_later b ≡ true → b ≡ 36 → ⊥
 later_other b h e = let z : is_later 36 ≡ true = ap is_later (sym e) ∙ h in cc
 
-spelled_clock : (name : List ℕ) (n : ℕ) → is_spelled name ≡ true → clock_name name ≡ node_name n → ⊥
+identifier_clock : (name : List ℕ) (n : ℕ) → is_identifier name ≡ true → clock_name name ≡ node_name n → ⊥
 unfolding clock_name node_name
-spelled_clock [] n h e = absurd cc
-spelled_clock (b ∷ []) n h e =
+identifier_clock [] n h e = absurd cc
+identifier_clock (b ∷ []) n h e =
     let z : ◌≡◌ {A = ℕ} 95 36 = cc in
     absurd (omega (arith, z))
-spelled_clock (b ∷ (c ∷ cs)) n h e =
+identifier_clock (b ∷ (c ∷ cs)) n h e =
     let z : c ≡ 36 = cc in
     later_other c (and_parts (is_later c) (list_all is_later cs) (and_parts (is_first b) (list_all is_later (c ∷ cs)) h).1).0 z
 
 pub clock_not_node : (d : Design) → Keeps d → (k n : ℕ) → k < length d.domains → clock d k ≡ node_name n → ⊥
 clock_not_node d keeps k n lt e =
     let a = domain_at d k lt in
-    let is = each_of (IsDomain d) d.domains keeps.domains k a.domain a.there in
-    spelled_clock a.domain.name n (and_parts (is_spelled a.domain.name) (not (is_python_word a.domain.name)) is.name).0 (sym a.clock ∙ e)
+    let is = each_of_at (IsDomain d) d.domains keeps.domains k a.domain a.there in
+    identifier_clock a.domain.name n is.name (sym a.clock ∙ e)
 
--- ---- signals
+-- ---- signals and memories
 
-net_there : (names : List Name) (x : ℕ) → x < length names → slice_get names x ≡ Some (net names x)
-net_there names x lt = slice_get-get_or names x [] lt
+-- a name at a place of the list: a signal's, or a memory's
+pub named_at : (d : Design) (names : List Name) → NamesFit d names → (i : ℕ) → i < length d.signals + length d.memories → slice_get names i ≡ Some (net names i)
+named_at d names fit i lt = slice_get-get_or names i [] (omega (arith, fit.long, lt))
 
--- the net of a signal is one of the names
-pub net_at : (d : Design) (names : List Name) → NamesFit d names → (x : ℕ) → x < length d.signals → slice_get names x ≡ Some (net names x)
-net_at d names fit x lt = net_there names x (omega (arith, fit.long))
+named_once : (d : Design) (names : List Name) → NamesFit d names → (i j : ℕ) → i < length d.signals + length d.memories → j < length d.signals + length d.memories → net names i ≡ net names j → i ≡ j
+named_once d names fit i j p q e =
+    one_place names fit.distinct i j (net names i) (named_at d names fit i p) (named_at d names fit j q ∙ ap Some (sym e))
 
-pub net_once : (d : Design) (names : List Name) → NamesFit d names → (x y : ℕ) → x < length d.signals → y < length d.signals → net names x ≡ net names y → x ≡ y
-net_once d names fit x y p q e =
-    one_place names fit.distinct x y (net names x) (net_at d names fit x p) (net_at d names fit y q ∙ ap Some (sym e))
-
-pub net_not_clock : (d : Design) (names : List Name) → NamesFit d names → (x k : ℕ) → x < length d.signals → k < length d.domains → net names x ≡ clock d k → ⊥
-net_not_clock d names fit x k p q e =
-    let some = is_there (clock d k) names x (net_at d names fit x p ∙ ap Some e) in
+named_not_clock : (d : Design) (names : List Name) → NamesFit d names → (i k : ℕ) → i < length d.signals + length d.memories → k < length d.domains → net names i ≡ clock d k → ⊥
+named_not_clock d names fit i k p q e =
+    let some = is_there (clock d k) names i (named_at d names fit i p ∙ ap Some e) in
     let none = fit.clocks k q in
     cc
 
-pub net_not_node : (d : Design) (names : List Name) → NamesFit d names → (x n : ℕ) → x < length d.signals → net names x ≡ node_name n → ⊥
-net_not_node d names fit x n p e =
-    let some = is_there (node_name n) names x (net_at d names fit x p ∙ ap Some e) in
+named_not_node : (d : Design) (names : List Name) → NamesFit d names → (i n : ℕ) → i < length d.signals + length d.memories → net names i ≡ node_name n → ⊥
+named_not_node d names fit i n p e =
+    let some = is_there (node_name n) names i (named_at d names fit i p ∙ ap Some e) in
     let none = fit.nodes n in
     cc
+
+pub net_once : (d : Design) (names : List Name) → NamesFit d names → (x y : ℕ) → x < length d.signals → y < length d.signals → net names x ≡ net names y → x ≡ y
+net_once d names fit x y p q e = named_once d names fit x y (omega arith) (omega arith) e
+
+pub net_not_clock : (d : Design) (names : List Name) → NamesFit d names → (x k : ℕ) → x < length d.signals → k < length d.domains → net names x ≡ clock d k → ⊥
+net_not_clock d names fit x k p q e = named_not_clock d names fit x k (omega arith) q e
+
+pub net_not_node : (d : Design) (names : List Name) → NamesFit d names → (x n : ℕ) → x < length d.signals → net names x ≡ node_name n → ⊥
+net_not_node d names fit x n p e = named_not_node d names fit x n (omega arith) e
+
+pub memory_once : (d : Design) (names : List Name) → NamesFit d names → (j k : ℕ) → j < length d.memories → k < length d.memories → memory_name d names j ≡ memory_name d names k → j ≡ k
+memory_once d names fit j k p q e =
+    let same = named_once d names fit (length d.signals + j) (length d.signals + k) (omega arith) (omega arith) e in
+    omega (arith, same)
+
+pub net_not_memory : (d : Design) (names : List Name) → NamesFit d names → (x k : ℕ) → x < length d.signals → k < length d.memories → net names x ≡ memory_name d names k → ⊥
+net_not_memory d names fit x k p q e =
+    let same = named_once d names fit x (length d.signals + k) (omega arith) (omega arith) e in
+    omega (arith, same, p)
+
+pub memory_not_clock : (d : Design) (names : List Name) → NamesFit d names → (j k : ℕ) → j < length d.memories → k < length d.domains → memory_name d names j ≡ clock d k → ⊥
+memory_not_clock d names fit j k p q e = named_not_clock d names fit (length d.signals + j) k (omega arith) q e
+
+pub memory_not_node : (d : Design) (names : List Name) → NamesFit d names → (j n : ℕ) → j < length d.memories → memory_name d names j ≡ node_name n → ⊥
+memory_not_node d names fit j n p e = named_not_node d names fit (length d.signals + j) n (omega arith) e

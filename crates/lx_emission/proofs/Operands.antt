@@ -7,7 +7,8 @@ use Rattle.lx_num.proofs.Ints.{modulo-modulo}
 use Rattle.lx_num.proofs.Ranges.{FitsBits-wrap_bits, modulo-wrap_bits}
 use Rattle.lx_circuit.specs.Terms.{Term}
 use Rattle.lx_circuit.specs.Shapes.{Shapes, shape_of}
-use Rattle.lx_circuit.specs.Values.{Values, value_of, is_zero}
+use Rattle.lx_circuit.specs.Places.{Values, At}
+use Rattle.lx_circuit.specs.Values.{value_of, is_zero}
 use Rattle.lx_vtext.specs.Tree.{Name, Net}
 use Rattle.lx_vmeaning.specs.Meaning as verilog
 use Rattle.lx_vmeaning.specs.Meaning.{Declared, Sizes, Valuation, Meaning, meaning, own, cut_to}
@@ -21,7 +22,7 @@ use Rattle.lx_fhdl.specs.Trees.{node_term}
 use Rattle.lx_fhdl.specs.declared.exprs.Expr.{Expr}
 use Rattle.lx_fhdl.specs.declared.exprs.Expr.TheVariants.{Const, Sig}
 use Rattle.lx_fhdl.specs.declared.design.Design.{Design}
-use Rattle.lx_fhdl.proofs.Arena.{node_there}
+use Rattle.lx_arena.proofs.Places.{node_there}
 use Rattle.lx_fhdl.proofs.Trees.{term_at-is}
 use Rattle.lx_emission.specs.Naming.{net, node_net}
 use Rattle.lx_emission.specs.Nodes.{node_shape, operand_of, operand}
@@ -52,16 +53,16 @@ text_exact : (d : Design) (names : List Name) (s : Sizes) (v : Values) (w : Valu
     → ExactTerm w (shapes d) v (term d k) (meaning s (operand_of names (node_net d.exprs k) (Some x)))
 unfolding node_shape
 text_exact d names s v w keeps declares has fits k (Const value bits signed) e small fit =
-    let is = term_at-is d.exprs keeps.exprs_lower k (Const value bits signed) e in
+    let is = term_at-is d.exprs keeps.arenas.exprs_lower k (Const value bits signed) e in
     let some = moved (λ t. IsSmall (shape_of (shapes d) t)) (term d k) (node_term (term d) (Const value bits signed)) is small in
     moved (λ t. ExactTerm w (shapes d) v t (verilog.literal bits signed (modulo value (2 ^ bits)))) (node_term (term d) (Const value bits signed)) (term d k) (sym is)
     (literal_exact w value bits signed some.some)
 text_exact d names s v w keeps declares has fits k (Sig x) e small fit =
-    let is = term_at-is d.exprs keeps.exprs_lower k (Sig x) e in
+    let is = term_at-is d.exprs keeps.arenas.exprs_lower k (Sig x) e in
     let some = moved (λ t. IsSmall (shape_of (shapes d) t)) (term d k) (node_term (term d) (Sig x)) is small in
-    let within = keeps.named k (Sig x) e in
+    let within = keeps.arenas.named k (Sig x) e in
     moved (λ t. ExactTerm w (shapes d) v t (meaning s (Net (net names x.0)))) (node_term (term d) (Sig x)) (term d k) (sym is)
-    (net_exact w s (net names x.0) (shapes d x.0) (v x.0) (declares.signals x.0 within) some (fits.each x.0) (has.signals x.0 within))
+    (net_exact w s (net names x.0) (shapes d x.0) (v (At x.0)) (declares.signals x.0 within) some (fits.each x.0) (has.signals x.0 within))
 text_exact d names s v w keeps declares has fits k x e small fit =
     net_exact w s (node_net d.exprs k) (node_shape d k) (value_of (shapes d) v (term d k)) (declares.nodes k (record { node = x; there = e; net = refl })) small fit (has.nodes k (record { node = x; there = e; net = refl }))
 

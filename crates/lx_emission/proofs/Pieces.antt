@@ -1,22 +1,20 @@
 -- What the taken assignments do to the pattern of one signal, and the statements of one signal alone.
-use Rattle.std.proofs.Common.{◌≡◌, ℕ, ℤ, zero, suc, ◌+◌, ◌-◌, ◌*◌, ◌/◌, ◌%◌, ◌^◌, ◌<◌, ◌≤◌, Bool, true, false, ◌&&◌, ◌||◌, List, [], ◌∷◌, length, nat_eq, nat_lt, not, cond, refl, sym, ◌∙◌, ap, subst, arith, eqb-true}
+use Rattle.std.proofs.Common.{◌≡◌, ℕ, ℤ, zero, suc, ◌+◌, ◌^◌, ◌<◌, ◌≤◌, Bool, true, false, ◌&&◌, ◌||◌, List, [], ◌∷◌, length, nat_eq, nat_lt, not, cond, refl, sym, ◌∙◌, ap, subst, arith, eqb-true}
 use Rattle.std.specs.Prelude.{Option, Some, None, slice_get, IsTrue}
-use Rattle.std.proofs.Math.Nat.{div-eq_of_lt}
-use Rattle.std.proofs.lemmas.Nat.{pow_pos, pow-add, mul-add-lt, mod_below, div_below}
-use Rattle.std.proofs.lemmas.Bool.{and_parts}
+use Rattle.std.proofs.lemmas.Bool.{and_parts, and_from}
 use Rattle.lx_num.specs.Ints.{modulo}
-use Rattle.lx_num.proofs.Ints.{modulo-below, pow_split}
 use Rattle.lx_circuit.specs.Shapes.{Shapes}
-use Rattle.lx_circuit.specs.Values.{Values, value_of, is_zero}
+use Rattle.lx_circuit.specs.Places.{Values}
+use Rattle.lx_circuit.specs.Values.{value_of, is_zero}
 use Rattle.lx_circuit.specs.Terms.{Term}
 use Rattle.lx_circuit.specs.Statements as tree
 use Rattle.lx_circuit.specs.Statements.{Piece, laid_over, piece, pieces, taken, taken_block, after_pieces, drives, drives_branch, drives_block}
-use Rattle.lx_circuit.proofs.Cases.{by_test, and_true, after_append}
+use Rattle.lx_circuit.proofs.Cases.{by_test, after_append}
 use Rattle.lx_circuit.proofs.Frames.{stmt_leaves}
 use Rattle.lx_vtext.specs.Tree.{Name}
 use Rattle.lx_fhdl.specs.Below.{ExprId, StmtId, all_stmts_below}
 use Rattle.lx_fhdl.specs.Designs.{term, target, stmt, block, shapes}
-use Rattle.lx_fhdl.specs.Stmts.{target_of, target_within, target_at, block_at, stmt_of, stmt_within, stmt_at}
+use Rattle.lx_fhdl.specs.Stmts.{target_at, block_at, stmt_at}
 use Rattle.lx_fhdl.specs.Lowered.{is_plain_target, is_for, branches_are_for, are_for, is_lone, is_done, IsPlain, ArePlain}
 use Rattle.lx_fhdl.specs.Keeping.{Keeps, StmtStands}
 use Rattle.lx_fhdl.specs.declared.stmts.Target.{Target}
@@ -26,26 +24,13 @@ use Rattle.lx_fhdl.specs.declared.stmts.Stmt.TheVariants as a_stmt
 use Rattle.lx_fhdl.specs.declared.design.Design.{Design}
 use Rattle.lx_emission.specs.Signals.{own, is_whole, whole_value, single}
 use Rattle.lx_emission.specs.Texts.{covers}
-
--- bits that cover a pattern leave nothing of it
-pub laid_whole : (p n : ℕ) (z : ℤ) → p < 2 ^ n → laid_over p 0 n z ≡ modulo z (2 ^ n)
-laid_whole p n z h =
-    let e : 2 ^ (0 + n) ≡ 2 ^ n = ap (λ (k : ℕ). 2 ^ k) (omega arith) in
-    let l : p < 2 ^ (0 + n) = omega arith in
-    omega (arith, mod_below p (2 ^ 0) (pow_pos 0), ap (λ (k : ℕ). 2 ^ (0 + n) * k) (div-eq_of_lt l))
-
--- bits inside a pattern leave it one of so many bits
-pub laid_below : (p low len n : ℕ) (z : ℤ) → low + len ≤ n → p < 2 ^ n → laid_over p low len z < 2 ^ n
-laid_below p low len n z le h =
-    let split = pow_split (low + len) n le in
-    let wide = pow-add 2 low len in
-    let field = mul-add-lt (modulo z (2 ^ len)) (2 ^ low) (p % 2 ^ low) (2 ^ len) (modulo-below z (2 ^ len) (pow_pos len)) (mod_below p (2 ^ low) (pow_pos low)) in
-    let above : p / 2 ^ (low + len) < 2 ^ (n - (low + len)) = div_below p (2 ^ (low + len)) (2 ^ (n - (low + len))) (pow_pos (low + len)) (omega arith) in
-    let all = mul-add-lt (p / 2 ^ (low + len)) (2 ^ (low + len)) (modulo z (2 ^ len) * 2 ^ low + p % 2 ^ low) (2 ^ (n - (low + len))) above (omega arith) in
-    omega arith
+use Rattle.lx_arena.specs.Folds.{fold_at}
+use Rattle.lx_emission.proofs.Levels.{target_of, target_within, stmt_of, stmt_within}
+use Rattle.lx_circuit.proofs.Whole.{laid_whole}
+use Rattle.lx_circuit.proofs.Fitting.{laid_over_below}
 
 -- what holds on either side of a test
-by_either : {P : Type 0} (a b : Bool) → (a || b) ≡ true → (a ≡ true → P) → (b ≡ true → P) → P
+pub by_either : {P : Type 0} (a b : Bool) → (a || b) ≡ true → (a ≡ true → P) → (b ≡ true → P) → P
 by_either true b e f g = f refl
 by_either false b e f g = g e
 
@@ -63,12 +48,12 @@ IsInside s (tree.PickTarget items index) = Unit {0}
 
 -- so do a design's
 pub target_inside : (d : Design) (k : ℕ) → Keeps d → IsInside (shapes d) (target d k)
-unfolding target_at target_within
+unfolding fold_at target_at
 target_inside d k keeps = by_place (slice_get d.targets k) refl
   where
     by_place : (o : Option Target) → slice_get d.targets k ≡ o → IsInside (shapes d) (target_of (term d) (target_within (term d) d.targets k) o)
     by_place (Some (a_target.Whole y)) e = tt
-    by_place (Some (a_target.Part y low len)) e = (keeps.targets k (a_target.Part y low len) e).2
+    by_place (Some (a_target.Part y low len)) e = (keeps.arenas.targets k (a_target.Part y low len) e).2
     by_place (Some (a_target.Cat parts)) e = tt
     by_place (Some (a_target.Pick items index)) e = tt
     by_place None e = tt
@@ -83,10 +68,10 @@ same_bits s y x e = ap (λ (k : ℕ). (s k).bits) (eqb-true y x e)
 target_below : (s : Shapes) (v : Values) (x : ℕ) (t : tree.Target) (z : ℤ) → IsInside s t → is_plain_target x t ≡ true → (old : ℕ) → old < 2 ^ (s x).bits → after_pieces x old (pieces s v t z) < 2 ^ (s x).bits
 target_below s v x (tree.Whole y) z i e old l =
     let n = same_bits s y x e in
-    subst (λ (q : ℕ). q < 2 ^ (s x).bits) (sym (after_piece x y old 0 (s y).bits z e)) (laid_below old 0 (s y).bits (s x).bits z (omega arith) l)
+    subst (λ (q : ℕ). q < 2 ^ (s x).bits) (sym (after_piece x y old 0 (s y).bits z e)) (laid_over_below (s x).bits old 0 (s y).bits z (omega arith) l)
 target_below s v x (tree.Part y low len) z i e old l =
     let n = same_bits s y x e in
-    subst (λ (q : ℕ). q < 2 ^ (s x).bits) (sym (after_piece x y old low len z e)) (laid_below old low len (s x).bits z (omega arith) l)
+    subst (λ (q : ℕ). q < 2 ^ (s x).bits) (sym (after_piece x y old low len z e)) (laid_over_below (s x).bits old low len z (omega arith) l)
 target_below s v x (tree.CatTarget parts) z i e old l = absurd (cc)
 target_below s v x (tree.PickTarget items index) z i e old l = absurd (cc)
 
@@ -128,12 +113,11 @@ stmt_keeps d v x g keeps h (Some (a_stmt.If (b ∷ []) rest line)) e old l =
 stmt_keeps d v x g keeps h (Some (a_stmt.Case on arms rest line)) e old l = absurd (cc)
 
 pub within_keeps : (d : Design) (v : Values) (x : ℕ) → Keeps d → (n k : ℕ) → KeepsBits (shapes d) v x (stmt_within (term d) (target d) d.stmts n k)
-unfolding stmt_within
 within_keeps d v x keeps zero k e old l = absurd (cc)
 within_keeps d v x keeps (suc n) k e old l = stmt_keeps d v x (stmt_within (term d) (target d) d.stmts n) keeps (within_keeps d v x keeps n) (slice_get d.stmts k) e old l
 
 pub stmt_at_keeps : (d : Design) (v : Values) (x : ℕ) → Keeps d → (k : ℕ) → KeepsBits (shapes d) v x (stmt d k)
-unfolding stmt_at
+unfolding fold_at stmt_at
 stmt_at_keeps d v x keeps k e old l = within_keeps d v x keeps (suc k) k e old l
 
 -- statements for a signal leave it a pattern of its bits
@@ -175,7 +159,7 @@ unfolding own
 own_for d x [] plain = refl
 own_for d x (i ∷ is) plain =
     by_test (drives x (stmt d i.place))
-    (λ e. rw e (and_true (is_for x (stmt d i.place)) (are_for x (block d (own d x is))) (driven_is_for x (stmt d i.place) plain.0 e) (own_for d x is plain.1)))
+    (λ e. rw e (and_from (is_for x (stmt d i.place)) (are_for x (block d (own d x is))) (driven_is_for x (stmt d i.place) plain.0 e) (own_for d x is plain.1)))
     (λ e. rw e (own_for d x is plain.1))
 
 pub own_takes : (d : Design) (v : Values) (x : ℕ) (ids : List StmtId) → ArePlain (block d ids) → (old : ℕ) → after_pieces x old (taken_block (shapes d) v (block d (own d x ids))) ≡ after_pieces x old (taken_block (shapes d) v (block d ids))
@@ -195,7 +179,7 @@ own_below d x n [] e = refl
 own_below d x n (i ∷ is) e =
     let p = and_parts (nat_lt i.place n) (all_stmts_below n is) e in
     by_test (drives x (stmt d i.place))
-    (λ f. rw f (and_true (nat_lt i.place n) (all_stmts_below n (own d x is)) p.0 (own_below d x n is p.1)))
+    (λ f. rw f (and_from (nat_lt i.place n) (all_stmts_below n (own d x is)) p.0 (own_below d x n is p.1)))
     (λ f. rw f (own_below d x n is p.1))
 
 pub own_some : (d : Design) (x : ℕ) (ids : List StmtId) → drives_block x (block d ids) ≡ true → 0 < length (own d x ids)
@@ -229,7 +213,7 @@ whole_takes d v x g z None w e old l = absurd (cc)
 
 target_takes : (d : Design) (v : Values) (x : ℕ) (z : ℤ) (k : ℕ) → is_whole d (slice_get d.targets k) ≡ true → is_plain_target x (target d k) ≡ true
     → (old : ℕ) → old < 2 ^ (shapes d x).bits → after_pieces x old (pieces (shapes d) v (target d k) z) ≡ modulo z (2 ^ (shapes d x).bits)
-unfolding target_at target_within
+unfolding fold_at target_at
 target_takes d v x z k w e old l = whole_takes d v x (target_within (term d) d.targets k) z (slice_get d.targets k) w e old l
 
 -- what a right side alone gives its signal
@@ -241,7 +225,7 @@ some_value : (b : Bool) (x y : ExprId) → cond b (Some x) None ≡ Some y → (
 some_value true x y e = (refl, cc)
 some_value false x y e = absurd (cc)
 
-stmt_given : (d : Design) (v : Values) (x : ℕ) (g : ℕ → tree.Stmt) (value : ExprId) (o : Option Stmt) → ((a : Stmt) → o ≡ Some a → StmtStands d a) → whole_value d o ≡ Some value
+stmt_given : (d : Design) (v : Values) (x : ℕ) (g : ℕ → tree.Stmt) (value : ExprId) (o : Option Stmt) → ((a : Stmt) → o ≡ Some a → StmtStands (length d.exprs) (length d.targets) a) → whole_value d o ≡ Some value
     → is_for x (stmt_of (term d) (target d) g o) ≡ true → IsGiven d v x value (tree.Then (stmt_of (term d) (target d) g o) tree.Done)
 stmt_given d v x g value (Some (a_stmt.Assign target_id right line)) stands w e =
     let q = some_value (is_whole d (slice_get d.targets target_id.place)) right value w in
@@ -253,8 +237,8 @@ stmt_given d v x g value (Some (a_stmt.Case on arms rest line)) stands w e = abs
 stmt_given d v x g value None stands w e = absurd (cc)
 
 at_given : (d : Design) (v : Values) (x : ℕ) → Keeps d → (value : ExprId) (k : ℕ) → whole_value d (slice_get d.stmts k) ≡ Some value → is_for x (stmt d k) ≡ true → IsGiven d v x value (tree.Then (stmt d k) tree.Done)
-unfolding stmt_at stmt_within
-at_given d v x keeps value k w e = stmt_given d v x (stmt_within (term d) (target d) d.stmts k) value (slice_get d.stmts k) (keeps.stmts k) w e
+unfolding fold_at stmt_at
+at_given d v x keeps value k w e = stmt_given d v x (stmt_within (term d) (target d) d.stmts k) value (slice_get d.stmts k) (keeps.arenas.stmts k) w e
 
 -- a list that is one whole assignment gives its right side
 pub single_value : (d : Design) (names : List Name) (v : Values) (x : ℕ) → Keeps d → x < length d.signals → (ids : List StmtId) → all_stmts_below (length d.stmts) ids ≡ true → are_for x (block d ids) ≡ true

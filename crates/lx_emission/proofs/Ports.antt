@@ -2,7 +2,8 @@
 use Rattle.std.proofs.Common.{◌≡◌, ℕ, ◌+◌, Bool, false, List, [], ◌∷◌, map, refl, ap, ◌∙◌}
 use Rattle.std.specs.Prelude.{Option, Some, None, option_map}
 use Rattle.std.proofs.lemmas.List.{map-append}
-use Rattle.lx_circuit.specs.Circuit.{Role, Input, Comb, Sync, Undriven, role, shapes}
+use Rattle.lx_circuit.specs.Circuit as circuit
+use Rattle.lx_circuit.specs.Circuit.{Role, role, shapes}
 use Rattle.lx_vtext.specs.Tree.{Name}
 use Rattle.lx_agree.specs.Agreement as agreement
 use Rattle.lx_agree.specs.Agreement.{PortOf, shown_port, is_input_role, HasPorts}
@@ -12,27 +13,28 @@ use Rattle.lx_fhdl.specs.declared.exprs.SigId.{SigId}
 use Rattle.lx_fhdl.specs.declared.design.Domain.{Domain}
 use Rattle.lx_fhdl.specs.declared.design.Design.{Design}
 use Rattle.lx_emission.specs.Naming.{net, naming}
-use Rattle.lx_emission.specs.Signals.{own, single, combined, drive_by, drive, signal_net}
-use Rattle.lx_emission.specs.Emission.{is_given, signal_port, reset_port, domain_port, domain_ports, ports_of, emitted}
+use Rattle.lx_emission.specs.Signals.{own, single, comb_drive, drive_by, drive, signal_net}
+use Rattle.lx_emission.specs.Emission.{is_input_drive, signal_port, reset_port, domain_port, domain_ports, ports_of, emitted}
 
-given_by : (d : Design) (x : ℕ) (r : Role) → is_given (drive_by d x r) ≡ is_input_role r
-given_by d x Input = refl
-given_by d x Undriven = refl
-given_by d x Comb = by (single d (own d x d.comb))
+input_by : (d : Design) (x : ℕ) (r : Role) → is_input_drive (drive_by d x r) ≡ is_input_role r
+input_by d x circuit.Input = refl
+input_by d x circuit.Undriven = refl
+input_by d x circuit.Comb = by (single d (own d x d.comb))
   where
-    by : (o : Option ExprId) → is_given (combined (own d x d.comb) o) ≡ false
+    by : (o : Option ExprId) → is_input_drive (comb_drive (own d x d.comb) o) ≡ false
     by None = refl
     by (Some value) = refl
-given_by d x (Sync k) = refl
+input_by d x (circuit.Sync k) = refl
+input_by d x (circuit.Read j) = refl
 
 -- a net is given where its signal is an input
-pub given_is : (d : Design) (x : ℕ) → is_given (drive d x) ≡ is_input_role (role (circuit_of d) x)
+pub input_is_drive : (d : Design) (x : ℕ) → is_input_drive (drive d x) ≡ is_input_role (role (circuit_of d) x)
 unfolding drive
-given_is d x = given_by d x (role (circuit_of d) x)
+input_is_drive d x = input_by d x (role (circuit_of d) x)
 
 shown_signal : (d : Design) (names : List Name) (x : ℕ) → shown_port (signal_port d names x) ≡ agreement.signal_port (circuit_of d) (naming d names) x
 unfolding signal_net
-shown_signal d names x = ap port (given_is d x)
+shown_signal d names x = ap port (input_is_drive d x)
   where
     port : Bool → PortOf
     port b = record { is_input = b; signed = (shapes (circuit_of d) x).signed; bits = (shapes (circuit_of d) x).bits; name = net names x }

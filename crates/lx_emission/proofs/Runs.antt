@@ -4,7 +4,8 @@ use Rattle.std.specs.Prelude.{Option, Some, None, slice_get}
 use Rattle.std.proofs.lemmas.Bool.{and_parts}
 use Rattle.lx_num.specs.Ints.{modulo}
 use Rattle.lx_circuit.specs.Shapes.{Shapes}
-use Rattle.lx_circuit.specs.Values.{Values, value_of, is_zero}
+use Rattle.lx_circuit.specs.Places.{Values}
+use Rattle.lx_circuit.specs.Values.{value_of, is_zero}
 use Rattle.lx_circuit.specs.Statements as tree
 use Rattle.lx_circuit.specs.Statements.{Piece, laid_over, pieces, taken, taken_block, after_pieces}
 use Rattle.lx_circuit.proofs.Cases.{by_test, after_append}
@@ -13,7 +14,7 @@ use Rattle.lx_vmeaning.specs.Meaning.{Declared, Sizes, Valuation, assigned, hold
 use Rattle.lx_vmeaning.specs.Runs.{set_bits, new_pattern, run_stmt, run_else, run_block}
 use Rattle.lx_fhdl.specs.Below.{StmtId, all_stmts_below}
 use Rattle.lx_fhdl.specs.Designs.{term, target, stmt, block, shapes}
-use Rattle.lx_fhdl.specs.Stmts.{target_of, target_within, target_at, block_at, stmt_of, stmt_within, stmt_at}
+use Rattle.lx_fhdl.specs.Stmts.{target_at, block_at, stmt_at}
 use Rattle.lx_fhdl.specs.Lowered.{is_plain_target, is_for, are_for}
 use Rattle.lx_fhdl.specs.Keeping.{Keeps, TargetStands, StmtStands}
 use Rattle.lx_fhdl.specs.declared.stmts.Target.{Target}
@@ -23,9 +24,12 @@ use Rattle.lx_fhdl.specs.declared.stmts.Stmt.TheVariants as a_stmt
 use Rattle.lx_fhdl.specs.declared.design.Design.{Design}
 use Rattle.lx_emission.specs.Naming.{net}
 use Rattle.lx_emission.specs.Nodes.{operand}
-use Rattle.lx_emission.specs.Texts.{covers, target_text, block_onto, else_text, stmt_text_of, stmt_text_within, stmt_text}
+use Rattle.lx_emission.specs.Texts.{covers, target_text, block_onto, else_text, stmt_text}
 use Rattle.lx_emission.proofs.Setting.{DeclaresNets, OperandsStand}
-use Rattle.lx_emission.proofs.Pieces.{laid_whole, laid_covering, after_piece, same_bits, both_are_for, KeepsBits, within_keeps, stmt_at_keeps}
+use Rattle.lx_emission.proofs.Pieces.{laid_covering, after_piece, same_bits, both_are_for, KeepsBits, within_keeps, stmt_at_keeps}
+use Rattle.lx_arena.specs.Folds.{fold_at}
+use Rattle.lx_emission.proofs.Levels.{target_of, target_within, stmt_of, stmt_within, stmt_text_of, stmt_text_within}
+use Rattle.lx_circuit.proofs.Whole.{laid_whole}
 
 -- the bits that a part names
 part_is : (p low len : ℕ) (z : ℤ) (f : ℕ → ℕ) → 1 ≤ len → ((n : ℕ) → f n ≡ modulo z (2 ^ n)) → set_bits p (low + len - 1) low (f (low + len - 1 - low + 1)) ≡ laid_over p low len z
@@ -45,7 +49,7 @@ whole_runs : (d : Design) (names : List Name) (s : Sizes) (w : Valuation) (y : �
 whole_runs d names s w y e z declares made gives old = ap (λ (a : Declared). assigned s w a.bits e) (declares.signals y made) ∙ gives (shapes d y).bits
 
 target_runs : (d : Design) (names : List Name) (s : Sizes) (v : Values) (w : Valuation) (x : ℕ) (g : ℕ → tree.Target) (e : VExpr) (z : ℤ) → DeclaresNets d names s → Gives s w e z
-    → (o : Option Target) → ((a : Target) → o ≡ Some a → TargetStands d a) → is_plain_target x (target_of (term d) g o) ≡ true
+    → (o : Option Target) → ((a : Target) → o ≡ Some a → TargetStands (shapes d) (length d.signals) d.exprs a) → is_plain_target x (target_of (term d) g o) ≡ true
     → (old : ℕ) → old < 2 ^ (shapes d x).bits → new_pattern s w (target_text d names o) e old ≡ after_pieces x old (pieces (shapes d) v (target_of (term d) g o) z)
 target_runs d names s v w x g e z declares gives (Some (a_target.Whole y)) stands p old l =
     let n = same_bits (shapes d) y.0 x p in
@@ -66,9 +70,9 @@ target_runs d names s v w x g e z declares gives None stands p old l = absurd (c
 assign_runs : (d : Design) (names : List Name) (s : Sizes) (v : Values) (w : Valuation) (x : ℕ) (e : VExpr) (z : ℤ) → Keeps d → DeclaresNets d names s → Gives s w e z
     → (k : ℕ) → is_plain_target x (target d k) ≡ true
     → (old : ℕ) → old < 2 ^ (shapes d x).bits → new_pattern s w (target_text d names (slice_get d.targets k)) e old ≡ after_pieces x old (pieces (shapes d) v (target d k) z)
-unfolding target_at target_within
+unfolding fold_at target_at
 assign_runs d names s v w x e z keeps declares gives k p old l =
-    target_runs d names s v w x (target_within (term d) d.targets k) e z declares gives (slice_get d.targets k) (keeps.targets k) p old l
+    target_runs d names s v w x (target_within (term d) d.targets k) e z declares gives (slice_get d.targets k) (keeps.arenas.targets k) p old l
 
 -- ---- statements
 
@@ -99,7 +103,7 @@ chosen_runs s w x false holds_here so other old ps qs e p q = rw e p
 
 stmt_runs : (d : Design) (names : List Name) (s : Sizes) (v : Values) (w : Valuation) (now : Bool) (x : ℕ) (t : ℕ → VStmt) (g : ℕ → tree.Stmt) → Keeps d → DeclaresNets d names s → OperandsStand d names s v w
     → ((k : ℕ) → KeepsBits (shapes d) v x (g k)) → ((k : ℕ) → StmtRuns s w (shapes d) v x (t k) (g k))
-    → (o : Option Stmt) → ((a : Stmt) → o ≡ Some a → StmtStands d a) → StmtRuns s w (shapes d) v x (stmt_text_of d names now t o) (stmt_of (term d) (target d) g o)
+    → (o : Option Stmt) → ((a : Stmt) → o ≡ Some a → StmtStands (length d.exprs) (length d.targets) a) → StmtRuns s w (shapes d) v x (stmt_text_of d names now t o) (stmt_of (term d) (target d) g o)
 stmt_runs d names s v w now x t g keeps declares stand bits runs (Some (a_stmt.Assign target_id value line)) stands e old l =
     let there = stands (a_stmt.Assign target_id value line) refl in
     assign_runs d names s v w x (operand d names value.place) (value_of (shapes d) v (term d value.place)) keeps declares (stand.assigned value.place there.1) target_id.place e old l
@@ -118,14 +122,13 @@ stmt_runs d names s v w now x t g keeps declares stand bits runs None stands e o
 
 within_runs : (d : Design) (names : List Name) (s : Sizes) (v : Values) (w : Valuation) (now : Bool) (x : ℕ) → Keeps d → DeclaresNets d names s → OperandsStand d names s v w
     → (n k : ℕ) → StmtRuns s w (shapes d) v x (stmt_text_within d names now n k) (stmt_within (term d) (target d) d.stmts n k)
-unfolding stmt_within stmt_text_within
 within_runs d names s v w now x keeps declares stand zero k e old l = absurd (cc)
 within_runs d names s v w now x keeps declares stand (suc n) k e old l =
-    stmt_runs d names s v w now x (stmt_text_within d names now n) (stmt_within (term d) (target d) d.stmts n) keeps declares stand (within_keeps d v x keeps n) (within_runs d names s v w now x keeps declares stand n) (slice_get d.stmts k) (keeps.stmts k) e old l
+    stmt_runs d names s v w now x (stmt_text_within d names now n) (stmt_within (term d) (target d) d.stmts n) keeps declares stand (within_keeps d v x keeps n) (within_runs d names s v w now x keeps declares stand n) (slice_get d.stmts k) (keeps.arenas.stmts k) e old l
 
 text_runs : (d : Design) (names : List Name) (s : Sizes) (v : Values) (w : Valuation) (now : Bool) (x : ℕ) → Keeps d → DeclaresNets d names s → OperandsStand d names s v w
     → (k : ℕ) → StmtRuns s w (shapes d) v x (stmt_text d names now k) (stmt d k)
-unfolding stmt_at stmt_text
+unfolding fold_at stmt_at stmt_text
 text_runs d names s v w now x keeps declares stand k e old l = within_runs d names s v w now x keeps declares stand (suc k) k e old l
 
 -- the text of a signal's statements, with what follows, does what the assignments that they take do

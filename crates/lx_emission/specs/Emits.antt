@@ -1,5 +1,6 @@
 -- What the module of a lowered design is.
-use Rattle.std.specs.Prelude.{◌≡◌, ℕ, Bool, true, not, ◌&&◌, List, [], ◌∷◌, IsTrue}
+use Rattle.std.specs.Prelude.{◌≡◌, ℕ, Bool, true, false, not, ◌&&◌, List, [], ◌∷◌, Some, None, is_some, slice_get, IsTrue}
+use Rattle.lx_circuit.specs.Memories as memory
 use Rattle.lx_circuit.specs.Circuit as circuit
 use Rattle.lx_circuit.specs.Reads.{HasOrder}
 use Rattle.lx_vtext.specs.Tree.{Name, VModule}
@@ -7,10 +8,14 @@ use Rattle.lx_vtext.specs.Fits.{IsModule}
 use Rattle.lx_vmeaning.specs.Cycle.{HasCycleMeaning}
 use Rattle.lx_agree.specs.Agreement.{Agrees, HasPorts}
 use Rattle.lx_fhdl.specs.Designs.{circuit_of}
-use Rattle.lx_fhdl.specs.Keeping.{Keeps}
+use Rattle.lx_fhdl.specs.Keeping.{Keeps, EachOf}
 use Rattle.lx_fhdl.specs.Lowered.{IsLowered}
+use Rattle.lx_fhdl.specs.declared.exprs.Expr.{Expr}
+use Rattle.lx_fhdl.specs.declared.exprs.Expr.TheVariants.{Fetch}
 use Rattle.lx_fhdl.specs.declared.design.Design.{Design}
 use Rattle.lx_emission.specs.Naming.{NamesFit, naming}
+use Rattle.lx_emission.specs.Nodes.{node_shape}
+use Rattle.lx_emission.specs.Memories.{writing_domain}
 use Rattle.lx_emission.specs.Emission.{decls_of, emitted}
 
 abbrev pub are_once : List ℕ → Bool
@@ -26,16 +31,37 @@ pub record PortsFit (d : Design) : Type 0 where
   pub once : IsTrue (are_once (circuit_of d).ios)
   pub resets : IsTrue (none_is_reset (circuit_of d).ios (circuit_of d).domains)
 
--- A lowered design that can be written: its reads have an order, and its nets have names.
+-- the index of a read of a memory is unsigned
+abbrev pub HasIndex : Design → Expr → Type 0
+HasIndex d (Fetch memory width at) = (node_shape d at.place).signed ≡ false
+HasIndex d _ = Unit {0}
+
+-- the port shows nothing: memories are read by expressions alone
+abbrev pub ShowsNothing : memory.Port → Type 0
+ShowsNothing q = q.reader ≡ None
+
+-- a port that writes stands in the domain of the first port that writes its memory
+abbrev pub IsWithFirst : List memory.Port → memory.Port → Type 0
+IsWithFirst qs q = is_some q.writer ≡ true → q.domain ≡ writing_domain q.memory qs
+
+-- No port reads, the ports that write one memory stand in one domain, and reads have unsigned indices.
+pub record MemoriesFit (d : Design) : Type 0 where
+  pub show_nothing : EachOf ShowsNothing (circuit_of d).ports
+  pub one_domain : EachOf (IsWithFirst (circuit_of d).ports) (circuit_of d).ports
+  pub indices : (k : ℕ) (x : Expr) → slice_get d.exprs k ≡ Some x → HasIndex d x
+
+-- A lowered design that can be written: its reads have an order, its nets and memories have names, and its memories fit.
 pub record CanBeEmitted (d : Design) (names : List Name) : Type 0 where
   pub keeps : Keeps d
   pub lowered : IsLowered d
   pub order : HasOrder (circuit_of d)
   pub named : NamesFit d names
   pub ports : PortsFit d
+  pub memories : MemoriesFit d
 
 -- The module has a text and a cycle meaning, so no expression has more than 128 bits in its context; it has the design's ports,
--- a net for each signal and one for each operator and slice in order, and after every list of steps each signal has the number of its net.
+-- a net for each signal, each memory, and a net for each operator, slice and read of a memory in order; and after every list of
+-- steps each signal has the number of its net, and each word that of the module's.
 pub record Emits (d : Design) (names : List Name) (m : VModule) : Type 0 where
   pub lawful : IsModule m
   pub meaning : HasCycleMeaning m

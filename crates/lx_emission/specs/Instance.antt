@@ -1,4 +1,4 @@
--- Five designs that can be emitted, and the texts of their modules.
+-- Six designs that can be emitted, and the texts of their modules.
 use Rattle.std.specs.Prelude.{ℕ, pos, negsuc, true, false, List, [], ◌∷◌, ◌++◌, Some, None, codes}
 use Rattle.lx_num.specs.Ints.{shape}
 use Rattle.lx_tables.specs.declared.operators.Op.TheVariants as op
@@ -11,6 +11,9 @@ use Rattle.lx_fhdl.specs.declared.stmts.Target.TheVariants as target
 use Rattle.lx_fhdl.specs.declared.stmts.Stmt.{Stmt}
 use Rattle.lx_fhdl.specs.declared.stmts.Stmt.TheVariants as stmt
 use Rattle.lx_fhdl.specs.declared.design.Signal.{Signal}
+use Rattle.lx_fhdl.specs.declared.design.Memory.{Memory}
+use Rattle.lx_fhdl.specs.declared.design.PortMode.TheVariants as mode
+use Rattle.lx_fhdl.specs.declared.design.Port.{Port}
 use Rattle.lx_fhdl.specs.declared.design.Design.{Design}
 
 -- ---- one domain with a reset: If(c, q.eq(~q))
@@ -36,6 +39,8 @@ toggle = record {
   signals = toggle_signals;
   comb = [];
   sync = record { domain = 0; stmts = the_stmt 1 ∷ [] } ∷ [];
+  memories = [];
+  ports = [];
   domains = record { name = codes "sys"; reset = Some (the_signal 2) } ∷ [];
   ios = the_signal 0 ∷ the_signal 1 ∷ [];
 }
@@ -86,6 +91,8 @@ swap = record {
   signals = swap_signals;
   comb = [];
   sync = record { domain = 0; stmts = the_stmt 0 ∷ [] } ∷ record { domain = 1; stmts = the_stmt 1 ∷ [] } ∷ [];
+  memories = [];
+  ports = [];
   domains = record { name = codes "sys"; reset = None } ∷ record { name = codes "pix"; reset = Some (the_signal 2) } ∷ [];
   ios = the_signal 0 ∷ the_signal 1 ∷ [];
 }
@@ -138,6 +145,8 @@ slices = record {
   signals = slices_signals;
   comb = the_stmt 0 ∷ the_stmt 2 ∷ [];
   sync = [];
+  memories = [];
+  ports = [];
   domains = [];
   ios = the_signal 0 ∷ the_signal 1 ∷ [];
 }
@@ -187,6 +196,8 @@ mixed = record {
   signals = mixed_signals;
   comb = the_stmt 0 ∷ the_stmt 1 ∷ [];
   sync = [];
+  memories = [];
+  ports = [];
   domains = [];
   ios = the_signal 0 ∷ the_signal 1 ∷ the_signal 2 ∷ the_signal 3 ∷ [];
 }
@@ -245,6 +256,8 @@ branched = record {
   signals = branched_signals;
   comb = the_stmt 0 ∷ the_stmt 1 ∷ the_stmt 2 ∷ [];
   sync = record { domain = 0; stmts = the_stmt 5 ∷ [] } ∷ [];
+  memories = [];
+  ports = [];
   domains = record { name = codes "sys"; reset = Some (the_signal 4) } ∷ [];
   ios = the_signal 0 ∷ the_signal 1 ∷ the_signal 2 ∷ the_signal 3 ∷ [];
 }
@@ -277,5 +290,117 @@ branched_text =
     ++ codes "    w = 2'd0;\n"
     ++ codes "    w = u;\n"
     ++ codes "    w = r;\n"
+    ++ codes "end\n"
+    ++ codes "endmodule\n"
+
+-- ---- two memories in the domain `sys`: three words, written in two parts and read by Mux(adr < 3, m[adr], 0), and two words, written whole and read at 1
+
+unfoldable pub stored_exprs : List Expr
+stored_exprs =
+    expr.Sig (the_signal 0) ∷ expr.Fetch 0 8 (the_expr 0) ∷ expr.Const (pos 3) 2 false ∷ expr.Binary op.Lt (the_expr 0) (the_expr 2)
+    ∷ expr.Const (pos 0) 8 false ∷ expr.Mux (the_expr 3) (the_expr 1) (the_expr 4) ∷ expr.Const (pos 1) 1 false ∷ expr.Fetch 1 4 (the_expr 6) ∷ []
+
+unfoldable pub stored_targets : List Target
+stored_targets = target.Whole (the_signal 3) ∷ target.Whole (the_signal 8) ∷ []
+
+unfoldable pub stored_stmts : List Stmt
+stored_stmts = stmt.Assign (the_target 0) (the_expr 5) 5 ∷ stmt.Assign (the_target 1) (the_expr 7) 6 ∷ []
+
+unfoldable pub stored_signals : List Signal
+stored_signals =
+    signal_of (codes "adr") 2 0 ∷ signal_of (codes "dat_w") 8 0 ∷ signal_of (codes "we") 2 0 ∷ signal_of (codes "r") 8 0
+    ∷ signal_of (codes "sys_rst") 1 0 ∷ signal_of (codes "a") 1 0 ∷ signal_of (codes "d") 4 0 ∷ signal_of (codes "w") 1 0
+    ∷ signal_of (codes "y") 4 0 ∷ []
+
+unfoldable pub stored_memories : List Memory
+stored_memories =
+    record { path = codes "m" ∷ []; width = 8; depth = 3; init = 1 ∷ 255 ∷ []; line = 2 }
+    ∷ record { path = codes "t" ∷ []; width = 4; depth = 2; init = []; line = 3 } ∷ []
+
+-- a port of the domain `sys` that writes in parts of 4 bits, and shows nothing
+abbrev pub writing : (memory adr dat_w we : ℕ) → Port
+writing memory adr dat_w we = record {
+  memory = memory;
+  domain = Some 0;
+  adr = the_signal adr;
+  dat_r = None;
+  dat_w = Some (the_signal dat_w);
+  we = Some (the_signal we);
+  part = 4;
+  mode = mode.WriteFirst;
+}
+
+unfoldable pub stored_ports : List Port
+stored_ports = writing 0 0 1 2 ∷ writing 1 5 6 7 ∷ []
+
+-- The address 3 is past the end of m: it reads 0 and takes nothing, and no tool is asked what stands there.
+unfoldable pub stored : Design
+stored = record {
+  exprs = stored_exprs;
+  targets = stored_targets;
+  stmts = stored_stmts;
+  signals = stored_signals;
+  comb = the_stmt 0 ∷ the_stmt 1 ∷ [];
+  sync = [];
+  memories = stored_memories;
+  ports = stored_ports;
+  domains = record { name = codes "sys"; reset = Some (the_signal 4) } ∷ [];
+  ios = the_signal 0 ∷ the_signal 1 ∷ the_signal 2 ∷ the_signal 3 ∷ the_signal 5 ∷ the_signal 6 ∷ the_signal 7 ∷ the_signal 8 ∷ [];
+}
+
+abbrev pub stored_names : List Name
+stored_names =
+    codes "adr" ∷ codes "dat_w" ∷ codes "we" ∷ codes "r" ∷ codes "sys_rst" ∷ codes "a" ∷ codes "d" ∷ codes "w" ∷ codes "y"
+    ∷ codes "m" ∷ codes "t" ∷ []
+
+abbrev pub stored_text : List ℕ
+stored_text =
+    codes "module top (\n"
+    ++ codes "    input wire sys_clk,\n"
+    ++ codes "    input wire sys_rst,\n"
+    ++ codes "    input wire [1:0] adr,\n"
+    ++ codes "    input wire [7:0] dat_w,\n"
+    ++ codes "    input wire [1:0] we,\n"
+    ++ codes "    output wire [7:0] r,\n"
+    ++ codes "    input wire a,\n"
+    ++ codes "    input wire [3:0] d,\n"
+    ++ codes "    input wire w,\n"
+    ++ codes "    output wire [3:0] y\n"
+    ++ codes ");\n"
+    ++ codes "reg [7:0] m [0:2];\n"
+    ++ codes "reg [3:0] t [0:1];\n"
+    ++ codes "wire [7:0] n$0;\n"
+    ++ codes "wire n$1;\n"
+    ++ codes "wire [7:0] n$2;\n"
+    ++ codes "wire [3:0] n$3;\n"
+    ++ codes "initial begin\n"
+    ++ codes "    m[0] = 8'd1;\n"
+    ++ codes "    m[1] = 8'd255;\n"
+    ++ codes "    m[2] = 8'd0;\n"
+    ++ codes "end\n"
+    ++ codes "initial begin\n"
+    ++ codes "    t[0] = 4'd0;\n"
+    ++ codes "    t[1] = 4'd0;\n"
+    ++ codes "end\n"
+    ++ codes "assign n$0 = m[adr];\n"
+    ++ codes "assign n$1 = (adr < 2'd3);\n"
+    ++ codes "assign n$2 = (n$1 ? n$0 : 8'd0);\n"
+    ++ codes "assign n$3 = t[1'd1];\n"
+    ++ codes "assign r = n$2;\n"
+    ++ codes "assign y = n$3;\n"
+    ++ codes "always @(posedge sys_clk) begin\n"
+    ++ codes "    if ((adr < 2'd3)) begin\n"
+    ++ codes "        if (we[0:0]) begin\n"
+    ++ codes "            m[adr][3:0] <= dat_w[3:0];\n"
+    ++ codes "        end\n"
+    ++ codes "        if (we[1:1]) begin\n"
+    ++ codes "            m[adr][7:4] <= dat_w[7:4];\n"
+    ++ codes "        end\n"
+    ++ codes "    end\n"
+    ++ codes "end\n"
+    ++ codes "always @(posedge sys_clk) begin\n"
+    ++ codes "    if (w) begin\n"
+    ++ codes "        t[a] <= d;\n"
+    ++ codes "    end\n"
     ++ codes "end\n"
     ++ codes "endmodule\n"

@@ -1,5 +1,5 @@
--- The names of nets: a signal's is handed in, a node's is `n$<k>`, a clock's is `<domain>_clk`.
-use Rattle.std.specs.Prelude.{◌≡◌, ℕ, Bool, true, false, List, [], ◌∷◌, ◌++◌, ◌<◌, codes, length, Option, Some, None, slice_get, slice_index_or, if◌then◌else◌, IsTrue}
+-- The names of nets and memories: a signal's and a memory's are handed in, a node's is `n$<k>`, a clock's is `<domain>_clk`.
+use Rattle.std.specs.Prelude.{◌≡◌, ℕ, Bool, true, false, List, [], ◌∷◌, ◌++◌, ◌+◌, ◌<◌, codes, length, Option, Some, None, slice_get, slice_index_or, if◌then◌else◌, IsTrue}
 use Rattle.std.proofs.Common.{zero, suc}
 use Rattle.std.specs.List.{list_all, list_any}
 use Rattle.std.specs.Str.{bytes_eq}
@@ -9,7 +9,7 @@ use Rattle.lx_vtext.specs.Printed.{number_text}
 use Rattle.lx_agree.specs.Agreement.{Naming}
 use Rattle.lx_fhdl.specs.Keeping.{is_distinct}
 use Rattle.lx_fhdl.specs.declared.exprs.Expr.{Expr}
-use Rattle.lx_fhdl.specs.declared.exprs.Expr.TheVariants.{Const, Sig, Unary, Binary, Mux, Cat, Pick, Replicate, Slice}
+use Rattle.lx_fhdl.specs.declared.exprs.Expr.TheVariants.{Const, Sig}
 use Rattle.lx_fhdl.specs.declared.design.Domain.{Domain}
 use Rattle.lx_fhdl.specs.declared.design.Design.{Design}
 
@@ -17,17 +17,15 @@ use Rattle.lx_fhdl.specs.declared.design.Design.{Design}
 abbrev pub net : List Name → ℕ → Name
 net names x = slice_index_or names x []
 
--- every operator and slice has a net of its own
+-- the name of a memory: those of memories stand behind those of signals
+abbrev pub memory_name : Design → List Name → ℕ → Name
+memory_name d names k = net names (length d.signals + k)
+
+-- every operator, slice and read of a memory has a net of its own
 abbrev pub has_net : Expr → Bool
 has_net (Const value bits signed) = false
 has_net (Sig x) = false
-has_net (Unary op of) = true
-has_net (Binary op left right) = true
-has_net (Mux cond so other) = true
-has_net (Cat parts) = true
-has_net (Pick items index) = true
-has_net (Replicate of count) = true
-has_net (Slice of low high) = true
+has_net _ = true
 
 -- how many of the first k nodes have nets
 unfoldable pub nets_before : List Expr → ℕ → ℕ
@@ -54,14 +52,14 @@ abbrev pub clock : Design → ℕ → Name
 clock d k = clock_of (slice_get d.domains k)
 
 abbrev pub naming : Design → List Name → Naming
-naming d names = record { net = λ x. net names x; clock = λ k. clock d k }
+naming d names = record { net = λ x. net names x; clock = λ k. clock d k; memory = λ k. memory_name d names k }
 
 abbrev pub is_among : Name → List Name → Bool
 is_among n names = list_any (bytes_eq n) names
 
--- One name for each signal: distinct names of Verilog, none of them a domain's clock or of the form `n$<k>`.
+-- One name for each signal, then one for each memory: distinct names of Verilog, none of them a domain's clock or of the form `n$<k>`.
 pub record NamesFit (d : Design) (names : List Name) : Type 0 where
-  pub long : length names ≡ length d.signals
+  pub long : length names ≡ length d.signals + length d.memories
   pub lawful : IsTrue (list_all is_name names)
   pub distinct : IsTrue (is_distinct names)
   pub clocks : (k : ℕ) → k < length d.domains → is_among (clock d k) names ≡ false

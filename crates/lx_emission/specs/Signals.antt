@@ -3,7 +3,8 @@ use Rattle.std.specs.Prelude.{ℕ, ℤ, Bool, true, false, List, [], ◌∷◌, 
 use Rattle.lx_num.specs.declared.Shape.{Shape}
 use Rattle.lx_num.specs.Ints.{modulo}
 use Rattle.lx_circuit.specs.Statements.{drives}
-use Rattle.lx_circuit.specs.Circuit.{Role, Input, Comb, Sync, Undriven, role, made}
+use Rattle.lx_circuit.specs.Circuit as circuit
+use Rattle.lx_circuit.specs.Circuit.{Role, role, made}
 use Rattle.lx_vtext.specs.Tree.{Name, VExpr, Net, Literal, Whole, Assign, When, NoElse, VBlock, EndBlock, InBlock, VLiteral, VNet, VAssign, VAlways}
 use Rattle.lx_fhdl.specs.Below.{ExprId, StmtId}
 use Rattle.lx_fhdl.specs.Designs.{stmt, shapes, stmts_of, circuit_of}
@@ -40,28 +41,28 @@ single d (i ∷ (j ∷ is)) = None
 
 -- how a net is driven
 pub data Drive : Type 0 where
-  -- an input
-  Given : Drive
+  Input : Drive
   -- an assign of the reset value
-  Held : Drive
+  Undriven : Drive
   -- an assign of an expression
-  Equal : (value : ExprId) → Drive
+  CombAssign : (value : ExprId) → Drive
   -- a block of `always @(*)`
-  Combined : (body : List StmtId) → Drive
+  CombBlock : (body : List StmtId) → Drive
   -- a block at the rise of a domain's clock
-  Clocked : (domain : ℕ) (body : List StmtId) → Drive
+  Sync : (domain : ℕ) (body : List StmtId) → Drive
 
-abbrev pub combined : List StmtId → Option ExprId → Drive
-combined ids None = Combined ids
-combined ids (Some value) = Equal value
+abbrev pub comb_drive : List StmtId → Option ExprId → Drive
+comb_drive ids None = CombBlock ids
+comb_drive ids (Some value) = CombAssign value
 
 abbrev pub drive_by : Design → ℕ → Role → Drive
-drive_by d x Input = Given
-drive_by d x Undriven = Held
-drive_by d x Comb = combined (own d x d.comb) (single d (own d x d.comb))
-drive_by d x (Sync k) = Clocked k (own d x (stmts_of k d.sync))
+drive_by d x circuit.Input = Input
+drive_by d x circuit.Undriven = Undriven
+drive_by d x circuit.Comb = comb_drive (own d x d.comb) (single d (own d x d.comb))
+drive_by d x (circuit.Sync k) = Sync k (own d x (stmts_of k d.sync))
+drive_by d x (circuit.Read j) = Undriven
 
--- how the net of a signal is driven
+-- How the net of a signal is driven. No port of a design that is emitted reads, so no signal is what one shows.
 unfoldable pub drive : Design → ℕ → Drive
 drive d x = drive_by d x (role (circuit_of d) x)
 
@@ -83,11 +84,11 @@ reset_text d x = literal_text (shape_of_signal d x) (reset_of_signal d x)
 
 -- a net that a block drives is a register
 abbrev pub init_of : Shape → ℤ → Drive → Option VLiteral
-init_of s z Given = None
-init_of s z Held = None
-init_of s z (Equal value) = None
-init_of s z (Combined body) = Some (literal_of s z)
-init_of s z (Clocked k body) = Some (literal_of s z)
+init_of s z Input = None
+init_of s z Undriven = None
+init_of s z (CombAssign value) = None
+init_of s z (CombBlock body) = Some (literal_of s z)
+init_of s z (Sync k body) = Some (literal_of s z)
 
 unfoldable pub signal_net : Design → List Name → ℕ → VNet
 signal_net d names x = record {
@@ -98,11 +99,11 @@ signal_net d names x = record {
 }
 
 abbrev pub assign_by : Design → List Name → ℕ → Drive → List VAssign
-assign_by d names x Given = []
-assign_by d names x Held = record { name = net names x; value = reset_text d x } ∷ []
-assign_by d names x (Equal value) = record { name = net names x; value = operand d names value.place } ∷ []
-assign_by d names x (Combined body) = []
-assign_by d names x (Clocked k body) = []
+assign_by d names x Input = []
+assign_by d names x Undriven = record { name = net names x; value = reset_text d x } ∷ []
+assign_by d names x (CombAssign value) = record { name = net names x; value = operand d names value.place } ∷ []
+assign_by d names x (CombBlock body) = []
+assign_by d names x (Sync k body) = []
 
 -- the reset as the last statement of a clocked block
 abbrev pub reset_block : Design → List Name → ℕ → Option SigId → VBlock
@@ -116,18 +117,18 @@ domain_reset None = None
 domain_reset (Some x) = x.reset
 
 -- first the reset value, then the statements
-abbrev pub combined_body : Design → List Name → ℕ → List StmtId → VBlock
-combined_body d names x body = InBlock (Assign (Whole (net names x)) true (reset_text d x)) (block_onto (stmt_text d names true) body EndBlock)
+abbrev pub comb_body : Design → List Name → ℕ → List StmtId → VBlock
+comb_body d names x body = InBlock (Assign (Whole (net names x)) true (reset_text d x)) (block_onto (stmt_text d names true) body EndBlock)
 
-abbrev pub clocked_body : Design → List Name → ℕ → ℕ → List StmtId → VBlock
-clocked_body d names x k body = block_onto (stmt_text d names false) body (reset_block d names x (domain_reset (slice_get d.domains k)))
+abbrev pub sync_body : Design → List Name → ℕ → ℕ → List StmtId → VBlock
+sync_body d names x k body = block_onto (stmt_text d names false) body (reset_block d names x (domain_reset (slice_get d.domains k)))
 
 abbrev pub always_by : Design → List Name → ℕ → Drive → List VAlways
-always_by d names x Given = []
-always_by d names x Held = []
-always_by d names x (Equal value) = []
-always_by d names x (Combined body) = record { clock = None; body = combined_body d names x body } ∷ []
-always_by d names x (Clocked k body) = record { clock = Some (clock d k); body = clocked_body d names x k body } ∷ []
+always_by d names x Input = []
+always_by d names x Undriven = []
+always_by d names x (CombAssign value) = []
+always_by d names x (CombBlock body) = record { clock = None; body = comb_body d names x body } ∷ []
+always_by d names x (Sync k body) = record { clock = Some (clock d k); body = sync_body d names x k body } ∷ []
 
 unfoldable pub signal_assign : Design → List Name → ℕ → List VAssign
 signal_assign d names x = assign_by d names x (drive d x)

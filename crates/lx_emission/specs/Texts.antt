@@ -1,6 +1,6 @@
 -- The text of statements.
 use Rattle.std.specs.Prelude.{ℕ, Bool, List, [], ◌∷◌, Option, Some, ◌+◌, ◌-◌, ◌&&◌, nat_eq, slice_get, if◌then◌else◌}
-use Rattle.std.proofs.Common.{zero, suc}
+use Rattle.lx_arena.specs.Folds.{fold_at}
 use Rattle.lx_vtext.specs.Tree.{Name, VExpr, Net, VTarget, Whole, Part, VStmt, Assign, When, VElse, NoElse, Else, VBlock, EndBlock, InBlock}
 use Rattle.lx_fhdl.specs.Below.{StmtId}
 use Rattle.lx_fhdl.specs.Designs.{shapes}
@@ -20,7 +20,8 @@ covers bits low len = nat_eq low 0 && nat_eq len bits
 -- a slice that covers its signal is the whole signal
 abbrev pub target_text : Design → List Name → Option Target → VTarget
 target_text d names (Some (target.Whole x)) = Whole (net names x.0)
-target_text d names (Some (target.Part x low len)) = if covers (shapes d x.0).bits low len then Whole (net names x.0) else Part (net names x.0) (low + len - 1) low
+target_text d names (Some (target.Part x low len)) =
+    if covers (shapes d x.0).bits low len then Whole (net names x.0) else Part (net names x.0) (low + len - 1) low
 target_text d names _ = Whole []
 
 -- the statements at these places, and then those of the end
@@ -41,15 +42,12 @@ if_text o g [] rest = no_text
 if_text o g (b ∷ bs) rest = When (o b.cond.place) (block_onto g b.body EndBlock) (else_text g rest)
 
 -- the text of a statement, from the texts of the statements inside: with `=` where it acts at once, else with `<=`
-abbrev pub stmt_text_of : Design → List Name → Bool → (ℕ → VStmt) → Option Stmt → VStmt
-stmt_text_of d names now g (Some (stmt.Assign target value line)) = Assign (target_text d names (slice_get d.targets target.place)) now (operand d names value.place)
-stmt_text_of d names now g (Some (stmt.If branches rest line)) = if_text (operand d names) g branches rest
-stmt_text_of d names now g _ = no_text
-
-unfoldable pub stmt_text_within : Design → List Name → Bool → ℕ → ℕ → VStmt
-stmt_text_within d names now zero k = no_text
-stmt_text_within d names now (suc n) k = stmt_text_of d names now (stmt_text_within d names now n) (slice_get d.stmts k)
+abbrev pub node_stmt_text : Design → List Name → Bool → (ℕ → VStmt) → Stmt → VStmt
+node_stmt_text d names now g (stmt.Assign target value line) =
+    Assign (target_text d names (slice_get d.targets target.place)) now (operand d names value.place)
+node_stmt_text d names now g (stmt.If branches rest line) = if_text (operand d names) g branches rest
+node_stmt_text d names now g (stmt.Case on arms rest line) = no_text
 
 -- the text of the statement at a place
 unfoldable pub stmt_text : Design → List Name → Bool → ℕ → VStmt
-stmt_text d names now k = stmt_text_within d names now (suc k) k
+stmt_text d names now k = fold_at no_text (node_stmt_text d names now) d.stmts k

@@ -5,7 +5,7 @@ ghost use Rattle.std.specs.Prelude.{◌≡◌};
 ghost use Rattle.lx_vtext.specs.Printed.{module_text};
 ghost use Rattle.lx_emission.specs.Emission.{emitted};
 ghost use Rattle.lx_emission.specs.Emits.{CanBeEmitted, IsEmissionLaw};
-ghost use Rattle.lx_emission.specs.Instance.{toggle, toggle_names, toggle_text, swap, swap_names, swap_text, slices, slices_names, slices_text, mixed, mixed_names, mixed_text, branched, branched_names, branched_text};
+ghost use Rattle.lx_emission.specs.Instance.{toggle, toggle_names, toggle_text, swap, swap_names, swap_text, slices, slices_names, slices_text, mixed, mixed_names, mixed_text, branched, branched_names, branched_text, stored, stored_names, stored_text};
 
 /// The module of a lowered design has a text and a cycle meaning, and gives each signal its number after
 /// every list of steps.
@@ -38,6 +38,11 @@ pub fn branched_law()
     ensures { CanBeEmitted branched branched_names }
 {}
 
+/// A design with memories that are written in parts and whole, and read at a signal and at a constant, can be emitted.
+pub fn stored_law()
+    ensures { CanBeEmitted stored stored_names }
+{}
+
 /// The text of the module of `toggle_law`, byte for byte.
 pub fn toggle_text_law()
     ensures { module_text (emitted toggle toggle_names) ≡ toggle_text }
@@ -61,4 +66,9 @@ pub fn mixed_text_law()
 /// The text of the module of `branched_law`.
 pub fn branched_text_law()
     ensures { module_text (emitted branched branched_names) ≡ branched_text }
+{}
+
+/// The text of the module of `stored_law`: no address past the end of three words is written to.
+pub fn stored_text_law()
+    ensures { module_text (emitted stored stored_names) ≡ stored_text }
 {}

@@ -1,8 +1,9 @@
 -- Assigns that are put into a list, and their expressions into an arena.
-use Rattle.std.proofs.Common.{◌≡◌, ℕ, ◌<◌, ◌≤◌, Bool, true, false, cond, List, [], ◌∷◌, ◌++◌, length, map, nat_lt, ◌+◌, flat_map, refl, sym, ap, subst, ◌∙◌, arith, append_assoc, ltb-true, lt-ltb}
+use Rattle.std.proofs.Common.{◌≡◌, ℕ, ◌<◌, ◌≤◌, Bool, true, false, cond, List, [], ◌∷◌, ◌++◌, length, map, nat_lt, ◌+◌, flat_map, sym, ap, subst, ◌∙◌, arith, append_assoc, ltb-true, lt-ltb}
 use Rattle.std.specs.Prelude.{Result, OnOk, Some, slice_get}
 use Rattle.std.proofs.lemmas.Result.{on_ok_weaker}
 use Rattle.std.proofs.lemmas.List.{append-nil}
+use Rattle.lx_arena.proofs.Folds.{grows_not}
 use Rattle.lx_vtext.specs.Tree as tree
 use Rattle.lx_vtext.specs.Tree.{Name, VAssign}
 use Rattle.lx_vtree.specs.declared.nodes.VExpr.{VExpr}
@@ -25,7 +26,7 @@ wider : (n m : ℕ) → n ≤ m → (x : Assign) → nat_lt x.value.place n ≡ 
 wider n m l x h = let p = ltb-true x.value.place n h in lt-ltb x.value.place m (omega arith)
 
 stays : (a b : List VExpr) → Grows a b → (x : Assign) → nat_lt x.value.place (length a) ≡ true → assign_of (tree_at b) x ≡ assign_of (tree_at a) x
-stays a b g x h = ap (λ (t : tree.VExpr). record { name = x.name; value = t }) (g.stays x.value.place (ltb-true x.value.place (length a) h))
+stays a b g x h = ap (λ (t : tree.VExpr). record { name = x.name; value = t }) (g.trees x.value.place (ltb-true x.value.place (length a) h))
 
 -- assigns stay while the arena grows
 pub assigns_stay : (a b c : List VExpr) (xs ys : List Assign) (ts : List VAssign) → PutAssigns a b xs ys ts → Grows b c → PutAssigns a c xs ys ts
@@ -36,13 +37,16 @@ assigns_stay a b c xs ys ts p g = record {
 }
 
 pub assigns_none : (a : List VExpr) (xs : List Assign) → are_assigns_placed (length a) xs ≡ true → PutAssigns a a xs xs []
-assigns_none a xs h = record { grows = record { longer = omega arith; stays = λ id l. refl }; placed = h; trees = sym (append-nil (map (assign_of (tree_at a)) xs)) }
+assigns_none a xs h = record { grows = grows_not tree_at a; placed = h; trees = sym (append-nil (map (assign_of (tree_at a)) xs)) }
+
+pub assigns_empty : (a : List VExpr) (xs : List Assign) (ts : List VAssign) → are_assigns_placed (length a) xs ≡ true → [] ≡ ts → PutAssigns a a xs xs ts
+assigns_empty a xs ts h e = subst (λ (us : List VAssign). PutAssigns a a xs xs us) e (assigns_none a xs h)
 
 assigns_one : (a b : List VExpr) (xs : List Assign) (x : Assign) (t : tree.VExpr) → are_assigns_placed (length a) xs ≡ true → Put a b x.value.place t → PutAssigns a b xs (xs ++ x ∷ []) (record { name = x.name; value = t } ∷ [])
 assigns_one a b xs x t h p = record {
   grows = p.grows;
   placed = list_more _ _ xs x (wider (length a) (length b) p.grows.longer) h (lt-ltb x.value.place (length b) p.within);
-  trees = trees_more (assign_of (tree_at a)) (assign_of (tree_at b)) _ xs x (record { name = x.name; value = t }) (stays a b p.grows) h (ap (λ (u : tree.VExpr). record { name = x.name; value = u }) p.tree);
+  trees = trees_more (assign_of (tree_at a)) (assign_of (tree_at b)) _ xs x (record { name = x.name; value = t }) (stays a b p.grows) h (ap (λ (u : tree.VExpr). record { name = x.name; value = u }) p.is);
 }
 
 pub assigns_more : (a b c : List VExpr) (xs ys zs : List Assign) (ts us : List VAssign) → PutAssigns a b xs ys ts → PutAssigns b c ys zs us → PutAssigns a c xs zs (ts ++ us)

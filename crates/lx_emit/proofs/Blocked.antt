@@ -27,6 +27,9 @@ stays e0 e1 s0 s1 g x h = ap (λ (b : tree.VBlock). record { clock = x.clock; bo
 pub always_none : (e : List VExpr) (s : List VStmt) (xs : List Always) → StmtsPlaced (length e) s → are_blocks_placed (length s) xs ≡ true → PutAlways e e s s xs xs []
 always_none e s xs p h = record { grows = both_none e s p; placed = h; trees = sym (append-nil (map (always_of (stmt_at (tree_at e) s)) xs)) }
 
+pub always_empty : (e : List VExpr) (s : List VStmt) (xs : List Always) (ts : List VAlways) → StmtsPlaced (length e) s → are_blocks_placed (length s) xs ≡ true → [] ≡ ts → PutAlways e e s s xs xs ts
+always_empty e s xs ts p h f = subst (λ (us : List VAlways). PutAlways e e s s xs xs us) f (always_none e s xs p h)
+
 always_one : (e0 e1 : List VExpr) (s0 s1 : List VStmt) (xs : List Always) (x : Always) (b : tree.VBlock) → are_blocks_placed (length s0) xs ≡ true → PutBlock e0 e1 s0 s1 x.body b → PutAlways e0 e1 s0 s1 xs (xs ++ x ∷ []) (record { clock = x.clock; body = b } ∷ [])
 always_one e0 e1 s0 s1 xs x b h p = record {
   grows = p.grows;
@@ -42,7 +45,7 @@ always_push r e0 e1 s0 s1 xs after x clock b ts h p e f g =
     let one = subst (λ (us : List VAlways). PutAlways e0 e1 s0 s1 xs (xs ++ x ∷ []) us) same (always_one e0 e1 s0 s1 xs x b h p) in
     on_ok_weaker r (λ l. subst (λ (ys : List Always). PutAlways e0 e1 s0 s1 xs ys ts) (sym l) one) g
 
-always_more : (e0 e1 e2 : List VExpr) (s0 s1 s2 : List VStmt) (xs ys zs : List Always) (ts us : List VAlways) → PutAlways e0 e1 s0 s1 xs ys ts → PutAlways e1 e2 s1 s2 ys zs us → PutAlways e0 e2 s0 s2 xs zs (ts ++ us)
+pub always_more : (e0 e1 e2 : List VExpr) (s0 s1 s2 : List VStmt) (xs ys zs : List Always) (ts us : List VAlways) → PutAlways e0 e1 s0 s1 xs ys ts → PutAlways e1 e2 s1 s2 ys zs us → PutAlways e0 e2 s0 s2 xs zs (ts ++ us)
 always_more e0 e1 e2 s0 s1 s2 xs ys zs ts us p q = record {
   grows = both_more e0 e1 e2 s0 s1 s2 p.grows q.grows;
   placed = q.placed;

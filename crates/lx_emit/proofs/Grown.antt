@@ -3,6 +3,7 @@ use Rattle.std.proofs.Common.{◌≡◌, ℕ, ◌+◌, ◌<◌, ◌≤◌, Bool,
 use Rattle.std.specs.Prelude.{Option, Some, None, Result, IfOk, IsTrue}
 use Rattle.std.proofs.Math.Seq.{take-suc}
 use Rattle.lx_arena.specs.Lower.{EachLower}
+use Rattle.lx_arena.proofs.Folds.{grows_not}
 use Rattle.lx_vtext.specs.Tree as tree
 use Rattle.lx_vtree.specs.declared.nodes.VExpr.{VExpr}
 use Rattle.lx_vtree.specs.declared.nodes.VStmt.{VStmt}
@@ -24,7 +25,7 @@ pub put_stmt_ok : {E : Type 0} (r : Result StmtRef E) (e0 e1 : List VExpr) (s0 s
 put_stmt_ok r e0 e1 s0 s1 t u e h = subst (λ (x : tree.VStmt). IfOk r (λ i. PutStmt e0 e1 s0 s1 i.place x)) e h
 
 pub grows_none : (e : List VExpr) → Grows e e
-grows_none e = record { longer = omega arith; stays = λ id l. refl }
+grows_none e = grows_not tree_at e
 
 pub both_none : (e : List VExpr) (s : List VStmt) → StmtsPlaced (length e) s → GrowsBoth e e s s
 both_none e s p = record { exprs = grows_none e; longer = omega arith; stays = λ id l. refl; placed = p }
@@ -43,14 +44,14 @@ by_exprs e0 e1 s low p g = record { exprs = g; longer = omega arith; stays = λ 
 
 -- a statement more
 pub by_stmt : (e : List VExpr) (s0 s1 : List VStmt) (i : ℕ) (x : VStmt) → AddedStmt (tree_at e) s0 s1 i x → StmtsPlaced (length e) s1 → GrowsBoth e e s0 s1
-by_stmt e s0 s1 i x a p = record { exprs = grows_none e; longer = a.grows.longer; stays = a.grows.stays; placed = p }
+by_stmt e s0 s1 i x a p = record { exprs = grows_none e; longer = a.grows.longer; stays = a.grows.trees; placed = p }
 
-pub assign_put : (e0 e1 : List VExpr) (s0 s1 : List VStmt) (v : Ref) (t : tree.VExpr) (target : VTarget) (u : tree.VTarget) (at_once : Bool) (i : ℕ) → EachLower is_stmt_below s0 → StmtsPlaced (length e0) s0
-    → Put e0 e1 v.place t → IsTarget target u → AddedStmt (tree_at e1) s0 s1 i (node.Assign target at_once v) → StmtsPlaced (length e1) s1 → PutStmt e0 e1 s0 s1 i (tree.Assign u at_once t)
-assign_put e0 e1 s0 s1 v t target u at_once i low p put is a q = record {
-  grows = both_more e0 e1 e1 s0 s0 s1 (by_exprs e0 e1 s0 low p put.grows) (by_stmt e1 s0 s1 i (node.Assign target at_once v) a q);
+pub assign_put : (e0 e1 : List VExpr) (s0 s1 : List VStmt) (v : Ref) (t : tree.VExpr) (target : VTarget) (u : tree.VTarget) (blocking : Bool) (i : ℕ) → EachLower is_stmt_below s0 → StmtsPlaced (length e0) s0
+    → Put e0 e1 v.place t → IsTarget target u → AddedStmt (tree_at e1) s0 s1 i (node.Assign target blocking v) → StmtsPlaced (length e1) s1 → PutStmt e0 e1 s0 s1 i (tree.Assign u blocking t)
+assign_put e0 e1 s0 s1 v t target u blocking i low p put is a q = record {
+  grows = both_more e0 e1 e1 s0 s0 s1 (by_exprs e0 e1 s0 low p put.grows) (by_stmt e1 s0 s1 i (node.Assign target blocking v) a q);
   within = a.within;
-  tree = a.tree ∙ ap (λ (x : tree.VTarget). tree.Assign x at_once (tree_at e1 v.place)) (is.tree (tree_at e1)) ∙ ap (tree.Assign u at_once) put.tree;
+  tree = a.is ∙ ap (λ (x : tree.VTarget). tree.Assign x blocking (tree_at e1 v.place)) (is.tree (tree_at e1)) ∙ ap (tree.Assign u blocking) put.is;
 }
 
 -- ---- blocks
@@ -97,8 +98,8 @@ when_put e0 e1 e2 e3 s0 s1 s2 s3 so other c b r t i p q low put a placed =
       grows = both_more e0 e3 e3 s0 s2 s3 start.grows (by_stmt e3 s2 s3 i (node.When c so other) a placed);
       within = a.within;
       tree =
-          a.tree
-          ∙ ap (λ (x : tree.VExpr). tree.When x (plant_block (stmt_at (tree_at e3) s2) so) (plant_else (stmt_at (tree_at e3) s2) other)) put.tree
+          a.is
+          ∙ ap (λ (x : tree.VExpr). tree.When x (plant_block (stmt_at (tree_at e3) s2) so) (plant_else (stmt_at (tree_at e3) s2) other)) put.is
           ∙ ap (λ (x : tree.VBlock). tree.When t x (plant_else (stmt_at (tree_at e3) s2) other)) start.tree
           ∙ ap (tree.When t b) rest;
     }

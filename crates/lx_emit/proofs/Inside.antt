@@ -6,7 +6,7 @@ use Rattle.lx_circuit.specs.Terms.{Term}
 use Rattle.lx_circuit.specs.Statements as tree
 use Rattle.lx_fhdl.specs.Below.{ExprId, TargetId, StmtId, all_stmts_below, all_branches_below, stmt_below}
 use Rattle.lx_fhdl.specs.Trees.{term_at}
-use Rattle.lx_fhdl.specs.Stmts.{node_target, target_of, target_within, target_at, node_stmt, block_at, branches_at}
+use Rattle.lx_fhdl.specs.Stmts.{node_target, target_at, node_stmt, block_at, branches_at}
 use Rattle.lx_fhdl.specs.Designs.{target, stmt}
 use Rattle.lx_fhdl.specs.Keeping.{Keeps}
 use Rattle.lx_fhdl.specs.Lowered.{IsPlain, is_plain_target, is_for, are_for, branches_are_for, is_lone}
@@ -20,26 +20,26 @@ use Rattle.lx_fhdl.specs.declared.stmts.Stmt.TheVariants as statement
 use Rattle.lx_fhdl.specs.declared.design.Design.{Design}
 use Rattle.lx_emit.specs.Drives.{IsPlainTarget, first_of, first_inside}
 use Rattle.lx_emit.proofs.Plain.{for_same}
-use Rattle.lx_fhdl.proofs.StmtTrees.{stmt_at-is, lower_at}
+use Rattle.lx_arena.proofs.Places.{lower_at}
+use Rattle.lx_fhdl.proofs.StmtTrees.{stmt_at-is, target_at-is}
 
 -- ---- targets
 
--- the tree of a target, from what lies deeper
-target_is : (d : Design) (k : ℕ) (x : Target) → slice_get d.targets k ≡ Some x → target d k ≡ node_target (term_at d.exprs) (target_within (term_at d.exprs) d.targets k) x
-unfolding target_at target_within
-target_is d k x e = ap (target_of (term_at d.exprs) (target_within (term_at d.exprs) d.targets k)) e
+-- the tree of a target, from those of its parts
+pub target_is : (d : Design) (k : ℕ) (x : Target) → Keeps d → slice_get d.targets k ≡ Some x → target d k ≡ node_target (term_at d.exprs) (target d) x
+target_is d k x keeps e = target_at-is (term_at d.exprs) d.targets keeps.arenas.targets_lower k x e
 
-pub plain_whole : (d : Design) (k : ℕ) (x : SigId) → slice_get d.targets k ≡ Some (node.Whole x) → is_plain_target x.0 (target d k) ≡ true
-plain_whole d k x e = ap (is_plain_target x.0) (target_is d k (node.Whole x) e) ∙ eq-eqb x.0 x.0 refl
+pub plain_whole : (d : Design) (k : ℕ) (x : SigId) → Keeps d → slice_get d.targets k ≡ Some (node.Whole x) → is_plain_target x.0 (target d k) ≡ true
+plain_whole d k x keeps e = ap (is_plain_target x.0) (target_is d k (node.Whole x) keeps e) ∙ eq-eqb x.0 x.0 refl
 
-pub plain_part : (d : Design) (k : ℕ) (x : SigId) (low len : ℕ) → slice_get d.targets k ≡ Some (node.Part x low len) → is_plain_target x.0 (target d k) ≡ true
-plain_part d k x low len e = ap (is_plain_target x.0) (target_is d k (node.Part x low len) e) ∙ eq-eqb x.0 x.0 refl
+pub plain_part : (d : Design) (k : ℕ) (x : SigId) (low len : ℕ) → Keeps d → slice_get d.targets k ≡ Some (node.Part x low len) → is_plain_target x.0 (target d k) ≡ true
+plain_part d k x low len keeps e = ap (is_plain_target x.0) (target_is d k (node.Part x low len) keeps e) ∙ eq-eqb x.0 x.0 refl
 
-pub no_cat : (d : Design) (k : ℕ) (parts : List TargetId) → slice_get d.targets k ≡ Some (node.Cat parts) → IsPlainTarget (target d k) → ⊥
-no_cat d k parts e p = true≢false (sym p.alone ∙ ap (is_plain_target p.signal) (target_is d k (node.Cat parts) e))
+pub no_cat : (d : Design) (k : ℕ) (parts : List TargetId) → Keeps d → slice_get d.targets k ≡ Some (node.Cat parts) → IsPlainTarget (target d k) → ⊥
+no_cat d k parts keeps e p = true≢false (sym p.alone ∙ ap (is_plain_target p.signal) (target_is d k (node.Cat parts) keeps e))
 
-pub no_pick : (d : Design) (k : ℕ) (items : List TargetId) (index : ExprId) → slice_get d.targets k ≡ Some (node.Pick items index) → IsPlainTarget (target d k) → ⊥
-no_pick d k items index e p = true≢false (sym p.alone ∙ ap (is_plain_target p.signal) (target_is d k (node.Pick items index) e))
+pub no_pick : (d : Design) (k : ℕ) (items : List TargetId) (index : ExprId) → Keeps d → slice_get d.targets k ≡ Some (node.Pick items index) → IsPlainTarget (target d k) → ⊥
+no_pick d k items index keeps e p = true≢false (sym p.alone ∙ ap (is_plain_target p.signal) (target_is d k (node.Pick items index) keeps e))
 
 -- ---- the first statement inside a statement
 
@@ -96,7 +96,7 @@ first_there x t s (b ∷ bs) rest h =
 
 -- the tree of a statement
 pub stmt_is : (d : Design) (k : ℕ) (x : Stmt) → Keeps d → slice_get d.stmts k ≡ Some x → stmt d k ≡ node_stmt (term_at d.exprs) (target d) (stmt d) x
-stmt_is d k x keeps e = stmt_at-is (term_at d.exprs) (target_at (term_at d.exprs) d.targets) d.stmts keeps.stmts_lower k x e
+stmt_is d k x keeps e = stmt_at-is (term_at d.exprs) (target_at (term_at d.exprs) d.targets) d.stmts keeps.arenas.stmts_lower k x e
 
 pub no_case : (d : Design) (k : ℕ) (on : ExprId) (arms : List Arm) (rest : List StmtId) (line : ℕ) → Keeps d → slice_get d.stmts k ≡ Some (statement.Case on arms rest line) → IsPlain (stmt d k) → ⊥
 no_case d k on arms rest line keeps e p = true≢false (sym p.alone ∙ ap (is_for p.signal) (stmt_is d k (statement.Case on arms rest line) keeps e))
@@ -115,7 +115,7 @@ pub if_there : (d : Design) (k : ℕ) (bs : List Branch) (rest : List StmtId) (l
 if_there d k bs rest line keeps e p = first_there p.signal (term_at d.exprs) (stmt d) bs rest (sym (if_for d k p.signal bs rest line keeps e) ∙ p.alone)
 
 pub if_below : (d : Design) (k : ℕ) (bs : List Branch) (rest : List StmtId) (line : ℕ) (i : StmtId) → Keeps d → slice_get d.stmts k ≡ Some (statement.If bs rest line) → first_inside bs rest ≡ Some i → i.place < k
-if_below d k bs rest line i keeps e f = first_below k bs rest i f (lower_at stmt_below d.stmts keeps.stmts_lower k (statement.If bs rest line) e)
+if_below d k bs rest line i keeps e f = first_below k bs rest i f (lower_at stmt_below d.stmts keeps.arenas.stmts_lower k (statement.If bs rest line) e)
 
 pub if_plain : (d : Design) (k : ℕ) (bs : List Branch) (rest : List StmtId) (line : ℕ) (i : StmtId) → Keeps d → slice_get d.stmts k ≡ Some (statement.If bs rest line) → first_inside bs rest ≡ Some i → IsPlain (stmt d k) → IsPlain (stmt d i.place)
 if_plain d k bs rest line i keeps e f p = record { signal = p.signal; alone = first_for p.signal (term_at d.exprs) (stmt d) bs rest i f (sym (if_for d k p.signal bs rest line keeps e) ∙ p.alone) }

@@ -6,12 +6,15 @@ pub mod Emitted
 pub mod Grown
 pub mod Inside
 pub mod Lines
+pub mod Marked
 pub mod Operands
 pub mod Owners
 pub mod Parted
 pub mod Plain
 pub mod Puts
+pub mod Remembered
 pub mod Resets
 pub mod Shaped
 pub mod Statements
+pub mod Writing
 pub mod Written

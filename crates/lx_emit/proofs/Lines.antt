@@ -76,6 +76,22 @@ pieces_next f xs k before now next l h e = e ∙ ap (λ (bs : List _). bs ++ f k
 pub pieces_end : {T B : Type 0} (f : ℕ → List B) (xs : List T) (k : ℕ) (before now : List B) → length xs ≤ k → now ≡ before ++ pieces f xs k → now ≡ before ++ flat_map f (places_from 0 xs)
 pieces_end f xs k before now l h = h ∙ ap (λ (bs : List _). before ++ bs) (pieces_all f xs k l)
 
+-- ---- one item for each place of a list
+
+pub lines_next : {T B : Type 0} (f : ℕ → B) (xs : List T) (k : ℕ) (before now next : List B) → k < length xs → now ≡ before ++ map f (take k (places_from 0 xs)) → next ≡ now ++ f k ∷ [] → next ≡ before ++ map f (take (k + 1) (places_from 0 xs))
+lines_next f xs k before now next l h e =
+    let one : 0 + k ≡ k = omega arith in
+    let more : map f (take (k + 1) (places_from 0 xs)) ≡ map f (take k (places_from 0 xs)) ++ f k ∷ [] =
+    rw add-one (ap (map f) (take_place xs 0 k l) ∙ map-append f (take k (places_from 0 xs)) ((0 + k) ∷ []) ∙ ap (λ (i : ℕ). map f (take k (places_from 0 xs)) ++ f i ∷ []) one) in
+    e ∙ ap (λ (bs : List _). bs ++ f k ∷ []) h ∙ append_assoc before (map f (take k (places_from 0 xs))) (f k ∷ []) ∙ ap (λ (bs : List _). before ++ bs) (sym more)
+
+pub lines_end : {T B : Type 0} (f : ℕ → B) (xs : List T) (k : ℕ) (before now : List B) → length xs ≤ k → now ≡ before ++ map f (take k (places_from 0 xs)) → now ≡ before ++ map f (places_from 0 xs)
+lines_end f xs k before now l h = h ∙ ap (λ (is : List ℕ). before ++ map f is) (taken_places xs 0 k l)
+
+-- an item at the end of a list
+pub line_more : {A B : Type 0} (g : A → B) (xs : List A) (x : A) (t : B) → g x ≡ t → map g (xs ++ x ∷ []) ≡ map g xs ++ t ∷ []
+line_more g xs x t e = map-append g xs (x ∷ []) ∙ ap (λ (u : _). map g xs ++ u ∷ []) e
+
 -- ---- ports of domains
 
 abbrev domain_piece : Design → List Name → Name → Domain → List VPort

@@ -8,24 +8,23 @@ use Rattle.lx_vtext.specs.Tree.{Name}
 use Rattle.lx_fhdl.specs.Designs.{shapes}
 use Rattle.lx_fhdl.specs.Keeping.{Keeps}
 use Rattle.lx_fhdl.specs.declared.exprs.Expr.{Expr}
-use Rattle.lx_fhdl.specs.declared.exprs.Expr.TheVariants.{Const, Sig, Unary, Binary, Mux, Cat, Pick, Replicate, Slice}
+use Rattle.lx_fhdl.specs.declared.exprs.Expr.TheVariants.{Const, Sig, Unary, Binary, Mux, Cat, Pick, Replicate, Slice, Fetch}
 use Rattle.lx_fhdl.specs.declared.exprs.SigId.{SigId}
 use Rattle.lx_fhdl.specs.declared.design.Design.{Design}
 use Rattle.lx_fhdl.proofs.Arena.{constant_small}
 use Rattle.lx_fhdl.proofs.Trees.{term_at-is}
-use Rattle.lx_emission.specs.Naming.{net, node_name, node_net}
+use Rattle.lx_emission.specs.Naming.{net, node_net}
 use Rattle.lx_emission.specs.Nodes.{operand_of, operand}
-use Rattle.lx_emit.specs.Tables.{AreNumbers}
 
 pub place_within : {T : Type 0} (xs : List T) (k : ℕ) (x : T) → slice_get xs k ≡ Some x → k < length xs
 place_within [] k x e = absurd (cc)
 place_within (y ∷ ys) zero x e = omega arith
 place_within (y ∷ ys) (suc k) x e = let h = place_within ys k x e in omega arith
 
-pub constant_bits : (d : Design) (k : ℕ) (x : Expr) (value : ℤ) (bits : ℕ) (signed : Bool) → Keeps d → k < length d.exprs → slice_get d.exprs k ≡ Some x → x ≡ Const value bits signed → (0 < bits) × (bits < 128)
-constant_bits d k x value bits signed keeps h e f =
-    let t = term_at-is d.exprs keeps.exprs_lower k (Const value bits signed) (e ∙ ap (λ (y : Expr). Some y) f) in
-    let small = constant_small (shape bits signed) (sym (ap (fault_of (shapes d)) t) ∙ keeps.shaped k h) in
+pub constant_bits : (d : Design) (k : ℕ) (x : Expr) (value : ℤ) (bits : ℕ) (signed : Bool) → Keeps d → slice_get d.exprs k ≡ Some x → x ≡ Const value bits signed → (0 < bits) × (bits < 128)
+constant_bits d k x value bits signed keeps e f =
+    let t = term_at-is d.exprs keeps.arenas.exprs_lower k (Const value bits signed) (e ∙ ap (λ (y : Expr). Some y) f) in
+    let small = constant_small (shape bits signed) (sym (ap (fault_of (shapes d)) t) ∙ keeps.arenas.shaped k (place_within d.exprs k x e)) in
     (omega (arith, small.some), omega (arith, small.most))
 
 pub operand_is : (d : Design) (names : List Name) (k : ℕ) (x : Expr) → slice_get d.exprs k ≡ Some x → operand d names k ≡ operand_of names (node_net d.exprs k) (Some x)
@@ -36,12 +35,15 @@ pub constant_operand : (d : Design) (names : List Name) (k : ℕ) (x : Expr) (va
 constant_operand d names k x value bits signed e f = sym (operand_is d names k x e ∙ ap (λ (y : Expr). operand_of names (node_net d.exprs k) (Some y)) f)
 
 pub signal_there : (d : Design) (k : ℕ) (x : Expr) (y : SigId) → Keeps d → slice_get d.exprs k ≡ Some x → x ≡ Sig y → y.0 < length d.signals
-signal_there d k x y keeps e f = keeps.named k (Sig y) (e ∙ ap (λ (z : Expr). Some z) f)
+signal_there d k x y keeps e f = keeps.arenas.named k (Sig y) (e ∙ ap (λ (z : Expr). Some z) f)
+
+pub index_is : {T : Type 0} (xs : List T) (k : ℕ) (x z : T) → slice_get xs k ≡ Some x → slice_index_or xs k z ≡ x
+index_is [] k x z e = absurd (cc)
+index_is (y ∷ ys) zero x z e = cc
+index_is (y ∷ ys) (suc k) x z e = index_is ys k x z e
 
 pub name_is : (names : List Name) (k : ℕ) (n : Name) → slice_get names k ≡ Some n → n ≡ slice_index_or names k []
-name_is [] k n e = absurd (cc)
-name_is (m ∷ ms) zero n e = cc
-name_is (m ∷ ms) (suc k) n e = name_is ms k n e
+name_is names k n e = sym (index_is names k n [] e)
 
 pub signal_operand : (d : Design) (names : List Name) (k : ℕ) (x : Expr) (y : SigId) (n : Name) → slice_get d.exprs k ≡ Some x → x ≡ Sig y → n ≡ net names y.0 → tree.Net n ≡ operand d names k
 signal_operand d names k x y n e f g = ap tree.Net g ∙ sym (operand_is d names k x e ∙ ap (λ (z : Expr). operand_of names (node_net d.exprs k) (Some z)) f)
@@ -56,9 +58,9 @@ own_operand names own (Cat parts) f g = refl
 own_operand names own (Pick items index) f g = refl
 own_operand names own (Replicate of count) f g = refl
 own_operand names own (Slice of low high) f g = refl
+own_operand names own (Fetch memory width at) f g = refl
 
-pub node_operand : (d : Design) (names : List Name) (ns : List ℕ) (k : ℕ) (x : Expr) (n : Name) → AreNumbers d ns → slice_get d.exprs k ≡ Some x → ((value : ℤ) (bits : ℕ) (signed : Bool) → x ≡ Const value bits signed → ⊥) → ((y : SigId) → x ≡ Sig y → ⊥)
-    → n ≡ node_name (slice_index_or ns k 0) → tree.Net n ≡ operand d names k
-node_operand d names ns k x n a e f g h =
-    let own : n ≡ node_net d.exprs k = h ∙ ap node_name (a.each k (place_within d.exprs k x e)) in
-    ap tree.Net own ∙ own_operand names (node_net d.exprs k) x f g ∙ sym (operand_is d names k x e)
+pub node_operand : (d : Design) (names : List Name) (k : ℕ) (x : Expr) (n : Name) → slice_get d.exprs k ≡ Some x → ((value : ℤ) (bits : ℕ) (signed : Bool) → x ≡ Const value bits signed → ⊥) → ((y : SigId) → x ≡ Sig y → ⊥)
+    → n ≡ node_net d.exprs k → tree.Net n ≡ operand d names k
+node_operand d names k x n e f g h =
+    ap tree.Net h ∙ own_operand names (node_net d.exprs k) x f g ∙ sym (operand_is d names k x e)

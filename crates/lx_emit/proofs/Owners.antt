@@ -1,15 +1,17 @@
 -- Statements with their signals, and what drives a signal.
-use Rattle.std.proofs.Common.{◌≡◌, ℕ, zero, suc, ◌+◌, ◌<◌, ◌≤◌, Bool, true, false, ◌&&◌, ◌||◌, cond, List, [], ◌∷◌, ◌++◌, Option, Some, None, length, get_or, map, take, add-one, refl, sym, ◌∙◌, ap, subst, nat_eq, nat_lt, arith}
+use Rattle.std.proofs.Common.{◌≡◌, ◌≢◌, ℕ, zero, suc, ◌+◌, ◌-◌, ◌<◌, ◌≤◌, Bool, true, false, ◌&&◌, ◌||◌, cond, not, List, [], ◌∷◌, ◌++◌, Option, Some, None, length, get_or, set, map, take, drop, add-one, refl, sym, ◌∙◌, ap, subst, nat_eq, nat_lt, arith, below_more, eq-eqb, ne_eqb}
 use Rattle.std.specs.Prelude.{slice_get, slice_index_or, option_map, IsTrue}
-use Rattle.std.proofs.lemmas.Bool.{ltb-true, and_parts, eq-eqb}
+use Rattle.std.proofs.lemmas.Bool.{ltb-true, and_parts, eqb-true, true≢false}
+use Rattle.std.proofs.lemmas.List.{append-nil, get_or-set_same, get_or-set_other, get_or_default, length-append, length-set, take_more}
+use Rattle.std.proofs.Math.Seq.{drop-cons}
 use Rattle.lx_circuit.specs.Statements.{drives, drives_block}
 use Rattle.lx_circuit.specs.Circuit as circuit
-use Rattle.lx_circuit.specs.Circuit.{Role, Input, Comb, Sync, Undriven, nothing, role, sync_role, idle_role, is_reset_name}
+use Rattle.lx_circuit.specs.Memories as memory
+use Rattle.lx_circuit.specs.Circuit.{Role, Input, Comb, Sync, Read, Undriven, nothing, role, sync_role, read_role, idle_role, is_named}
 use Rattle.lx_fhdl.specs.Below.{ExprId, StmtId, all_stmts_below}
 use Rattle.lx_fhdl.specs.Designs.{stmt, block, stmts_of, signal_number, made_of, domains_from, circuit_of, shapes}
 use Rattle.lx_fhdl.specs.Keeping.{EachOf, PartStands, Keeps}
 use Rattle.lx_fhdl.specs.Lowered.{IsPlain, ArePlain, IsLowered, is_for}
-use Rattle.lx_fhdl.specs.declared.exprs.SigId.{SigId}
 use Rattle.lx_fhdl.specs.declared.stmts.Stmt.{Stmt}
 use Rattle.lx_fhdl.specs.declared.stmts.Stmt.TheVariants as statement
 use Rattle.lx_fhdl.specs.declared.design.Signal.{Signal}
@@ -17,10 +19,16 @@ use Rattle.lx_fhdl.specs.declared.design.SyncPart.{SyncPart}
 use Rattle.lx_fhdl.specs.declared.design.Domain.{Domain}
 use Rattle.lx_fhdl.specs.declared.design.Design.{Design}
 use Rattle.lx_emission.specs.Emission.{is_port}
-use Rattle.lx_emission.specs.Signals.{Given, Held, Clocked, own, is_whole, whole_value, single, combined, drive_by, drive}
+use Rattle.lx_emission.specs.Emits.{MemoriesFit, ShowsNothing}
+use Rattle.lx_emission.specs.Signals as signals
+use Rattle.lx_emission.specs.Signals.{own, is_whole, whole_value, single, comb_drive, drive_by, drive}
 use Rattle.lx_emission.specs.Texts.{covers}
-use Rattle.lx_emit.specs.Drives.{AreDrivers, AreDomainDrivers, is_driven, picked, first_domain, some_reset, IsThere, IsPlainDrive}
-use Rattle.lx_emit.specs.declared.drives.Driver.{Driver}
+use Rattle.lx_emit.specs.declared.drives.Drive.{Drive}
+use Rattle.lx_emit.specs.declared.drives.Drive.TheVariants as now
+use Rattle.lx_emit.specs.Drives.{AllAreThere, AreClocked, AreClosed, AreClosedTo, AreDrives, AreFilled, AreIdle, HaveNoBlock, IsThere, IsPlainDrive, block_of, block_or, clocked_from, clocked_or, closed, drive_at, drive_of, equal_or, idle_drive, is_block, is_input, with_stmt}
+use Rattle.lx_emit.specs.Marks.{AreMarks, some_reset}
+use Rattle.lx_emit.proofs.Counted.{at_front, at_last}
+use Rattle.lx_emit.proofs.Operands.{index_is, place_within}
 use Rattle.lx_emit.proofs.Plain.{for_drives}
 
 -- ---- lists of statements
@@ -63,66 +71,81 @@ pub domain_plain : (d : Design) (k : ℕ) (ps : List SyncPart) → EachOf (λ (p
 domain_plain d k [] h = tt
 domain_plain d k (p ∷ ps) h = part_plain (nat_eq p.domain k) d p.stmts (stmts_of k ps) h.0 (domain_plain d k ps h.1)
 
--- ---- statements with their signals
+-- ---- the statements of a list that assign a signal
 
--- one statement more
-drivers_more : (d : Design) (k : ℕ) (ids : List StmtId) (other : StmtId) (ps : List Driver) (p : Driver) → AreDrivers d (take k ids) ps → k < length ids → p.stmt ≡ get_or ids k other → is_for p.signal.0 (stmt d (get_or ids k other).place) ≡ true → AreDrivers d (take (suc k) ids) (ps ++ p ∷ [])
-drivers_more d k [] other ps p h l e f = absurd (omega arith)
-drivers_more d zero (i ∷ is) other [] p h l e f = (e, f, tt)
-drivers_more d zero (i ∷ is) other (q ∷ qs) p h l e f = absurd h
-drivers_more d (suc k) (i ∷ is) other [] p h l e f = absurd h
-drivers_more d (suc k) (i ∷ is) other (q ∷ qs) p h l e f = (h.0, h.1, drivers_more d k is other qs p h.2 (omega arith) e f)
-
-pub drivers_next : (d : Design) (k : ℕ) (ids : List StmtId) (other : StmtId) (ps : List Driver) (x : SigId) → AreDrivers d (take k ids) ps → k < length ids → is_for x.0 (stmt d (get_or ids k other).place) ≡ true → AreDrivers d (take (k + 1) ids) (ps ++ record { stmt = get_or ids k other; signal = x } ∷ [])
-drivers_next d k ids other ps x h l f = rw add-one (drivers_more d k ids other ps (record { stmt = get_or ids k other; signal = x }) h l refl f)
-
--- those of one domain more
-domains_more : (d : Design) (j k : ℕ) (xs : List Domain) (pss : List (List Driver)) (ps : List Driver) → AreDomainDrivers d j (take k xs) pss → k < length xs → AreDrivers d (stmts_of (j + k) d.sync) ps → AreDomainDrivers d j (take (suc k) xs) (pss ++ ps ∷ [])
-domains_more d j k [] pss ps h l e = absurd (omega arith)
-domains_more d j zero (x ∷ xs) [] ps h l e =
-    let same : j + 0 ≡ j = omega arith in
-    (subst (λ i. AreDrivers d (stmts_of i d.sync) ps) same e, tt)
-domains_more d j zero (x ∷ xs) (qs ∷ qss) ps h l e = absurd h
-domains_more d j (suc k) (x ∷ xs) [] ps h l e = absurd h
-domains_more d j (suc k) (x ∷ xs) (qs ∷ qss) ps h l e =
-    let same : j + suc k ≡ j + 1 + k = omega arith in
-    (h.0, domains_more d (j + 1) k xs qss ps h.1 (omega arith) (subst (λ i. AreDrivers d (stmts_of i d.sync) ps) same e))
-
-pub domains_next : (d : Design) (k : ℕ) (pss : List (List Driver)) (ids : List StmtId) (ps : List Driver) → AreDomainDrivers d 0 (take k d.domains) pss → k < length d.domains → ids ≡ stmts_of k d.sync → AreDrivers d ids ps → AreDomainDrivers d 0 (take (k + 1) d.domains) (pss ++ ps ∷ [])
-domains_next d k pss ids ps h l e g =
-    let same : k ≡ 0 + k = omega arith in
-    rw add-one (domains_more d 0 k d.domains pss ps h l (subst (λ i. AreDrivers d (stmts_of i d.sync) ps) same (subst (λ (is : List StmtId). AreDrivers d is ps) e g)))
-
-pub domain_at : (d : Design) (k : ℕ) (xs : List Domain) (pss : List (List Driver)) (j : ℕ) (ps : List Driver) → AreDomainDrivers d k xs pss → slice_get pss j ≡ Some ps → AreDrivers d (stmts_of (k + j) d.sync) ps
-domain_at d k [] [] j ps h e = absurd (cc)
-domain_at d k [] (qs ∷ qss) j ps h e = absurd h
-domain_at d k (x ∷ xs) [] j ps h e = absurd h
-domain_at d k (x ∷ xs) (qs ∷ qss) zero ps h e =
-    let same : k ≡ k + 0 = omega arith in
-    let list : qs ≡ ps = cc in
-    subst (λ j. AreDrivers d (stmts_of j d.sync) ps) same (subst (λ (l : List Driver). AreDrivers d (stmts_of k d.sync) l) list h.0)
-domain_at d k (x ∷ xs) (qs ∷ qss) (suc j) ps h e =
-    let same : k + 1 + j ≡ k + suc j = omega arith in
-    subst (λ i. AreDrivers d (stmts_of i d.sync) ps) same (domain_at d (k + 1) xs qss j ps h.1 e)
-
--- the statements for a signal are those that assign it
-pub picked_is : (d : Design) (x : ℕ) (is : List StmtId) (ps : List Driver) → AreDrivers d is ps → picked x ps ≡ own d x is
+own_both : (d : Design) (x : ℕ) (is js : List StmtId) → own d x (is ++ js) ≡ own d x is ++ own d x js
 unfolding own
-picked_is d x [] [] h = refl
-picked_is d x [] (p ∷ ps) h = absurd h
-picked_is d x (i ∷ is) [] h = absurd h
-picked_is d x (i ∷ is) (p ∷ ps) h =
-    ap (λ (j : StmtId). cond (nat_eq p.signal.0 x) (j ∷ picked x ps) (picked x ps)) h.0
-    ∙ ap (λ (js : List StmtId). cond (nat_eq p.signal.0 x) (i ∷ js) js) (picked_is d x is ps h.2)
-    ∙ ap (λ b. cond b (i ∷ own d x is) (own d x is)) (sym (for_drives p.signal.0 x (stmt d i.place) h.1))
+own_both d x [] js = refl
+own_both d x (i ∷ is) js = by_answer (drives x (stmt d i.place)) (own_both d x is js)
+  where
+    by_answer : (b : Bool) → own d x (is ++ js) ≡ own d x is ++ own d x js → cond b (i ∷ own d x (is ++ js)) (own d x (is ++ js)) ≡ cond b (i ∷ own d x is) (own d x is) ++ own d x js
+    by_answer true e = ap (λ (ks : List StmtId). i ∷ ks) e
+    by_answer false e = e
 
-pub driven_is : (d : Design) (x : ℕ) (is : List StmtId) (ps : List Driver) → AreDrivers d is ps → is_driven x ps ≡ drives_block x (block d is)
-driven_is d x [] [] h = refl
-driven_is d x [] (p ∷ ps) h = absurd h
-driven_is d x (i ∷ is) [] h = absurd h
-driven_is d x (i ∷ is) (p ∷ ps) h =
-    ap (λ b. b || is_driven x ps) (sym (for_drives p.signal.0 x (stmt d i.place) h.1))
-    ∙ ap (λ b. drives x (stmt d i.place) || b) (driven_is d x is ps h.2)
+own_next : (d : Design) (x k : ℕ) (ids : List StmtId) (z : StmtId) (b : Bool) → k < length ids → drives x (stmt d (get_or ids k z).place) ≡ b → own d x (take (k + 1) ids) ≡ own d x (take k ids) ++ cond b (get_or ids k z ∷ []) []
+unfolding own
+own_next d x k ids z b l e =
+    ap (own d x) (take_more ids k z l)
+    ∙ own_both d x (take k ids) (get_or ids k z ∷ [])
+    ∙ ap (λ c. own d x (take k ids) ++ cond c (get_or ids k z ∷ []) []) e
+
+-- one statement more in the block of its signal
+with_more : (clock : Option ℕ) (ids : List StmtId) (i : StmtId) (r : signals.Drive) → is_block clock r ≡ false → with_stmt clock i (block_or clock ids r) ≡ block_or clock (ids ++ i ∷ []) r
+with_more None [] i signals.Input e = refl
+with_more None [] i signals.Undriven e = refl
+with_more None [] i (signals.CombAssign value) e = refl
+with_more None [] i (signals.CombBlock body) e = absurd (true≢false e)
+with_more None [] i (signals.Sync m body) e = refl
+with_more (Some k) [] i signals.Input e = refl
+with_more (Some k) [] i signals.Undriven e = refl
+with_more (Some k) [] i (signals.CombAssign value) e = refl
+with_more (Some k) [] i (signals.CombBlock body) e = refl
+with_more (Some k) [] i (signals.Sync m body) e = ap (λ b. cond b (signals.Sync m (body ++ i ∷ [])) (signals.Sync k (i ∷ []))) e
+with_more None (j ∷ js) i r e = refl
+with_more (Some k) (j ∷ js) i r e = ap (λ b. cond b (signals.Sync k ((j ∷ js) ++ i ∷ [])) (signals.Sync k (i ∷ []))) (eq-eqb k k refl)
+
+-- ---- a list of statements that is filled in
+
+at_set_same : (rs : List Drive) (y : ℕ) (r : Drive) → y < length rs → drive_at (set rs y r) y ≡ drive_of r
+at_set_same rs y r l = ap drive_of (get_or-set_same rs y r now.Undriven l)
+
+at_set_other : (rs : List Drive) (y x : ℕ) (r : Drive) → x ≢ y → drive_at (set rs y r) x ≡ drive_at rs x
+at_set_other rs y x r n = ap drive_of (get_or-set_other rs y x r now.Undriven n)
+
+pub filled_none : (d : Design) (clock : Option ℕ) (rs : List Drive) → AreFilled d clock [] rs rs
+unfolding own
+filled_none d clock rs = record { long = refl; each = λ x l. refl }
+
+pub filled_next : (d : Design) (clock : Option ℕ) (ids : List StmtId) (k : ℕ) (z : StmtId) (a b : List Drive) (y : ℕ) (q r : Drive) → HaveNoBlock clock a → k < length ids → is_for y (stmt d (get_or ids k z).place) ≡ true → y < length b
+    → AreFilled d clock (take k ids) a b → q ≡ get_or b y q → drive_of r ≡ with_stmt clock (get_or ids k z) (drive_of q) → AreFilled d clock (take (k + 1) ids) a (set b y r)
+filled_next d clock ids k z a b y q r none l own_is m h e f = record {
+  long = length-set b y r ∙ h.long;
+  each = λ x lt. by_answer x lt (nat_eq y x) refl;
+}
+  where
+    was : q ≡ slice_index_or b y now.Undriven
+    was = e ∙ get_or_default b y q now.Undriven m
+
+    by_answer : (x : ℕ) → x < length a → (t : Bool) → nat_eq y x ≡ t → drive_at (set b y r) x ≡ block_or clock (own d x (take (k + 1) ids)) (drive_at a x)
+    by_answer x lt true s =
+        let same : y ≡ x = eqb-true y x s in
+        let driven : drives x (stmt d (get_or ids k z).place) ≡ true = for_drives y x (stmt d (get_or ids k z).place) own_is ∙ s in
+        ap (drive_at (set b y r)) (sym same)
+        ∙ at_set_same b y r m
+        ∙ f
+        ∙ ap (λ (p : Drive). with_stmt clock (get_or ids k z) (drive_of p)) was
+        ∙ ap (λ j. with_stmt clock (get_or ids k z) (drive_at b j)) same
+        ∙ ap (with_stmt clock (get_or ids k z)) (h.each x lt)
+        ∙ with_more clock (own d x (take k ids)) (get_or ids k z) (drive_at a x) (none x lt)
+        ∙ ap (λ (is : List StmtId). block_or clock is (drive_at a x)) (sym (own_next d x k ids z true l driven))
+    by_answer x lt false s =
+        let other : x ≢ y = λ p. true≢false (sym (eq-eqb y x (sym p)) ∙ s) in
+        let not_driven : drives x (stmt d (get_or ids k z).place) ≡ false = for_drives y x (stmt d (get_or ids k z).place) own_is ∙ s in
+        at_set_other b y x r other
+        ∙ h.each x lt
+        ∙ ap (λ (is : List StmtId). block_or clock is (drive_at a x)) (sym (own_next d x k ids z false l not_driven ∙ append-nil (own d x (take k ids))))
+
+-- ---- what is there
 
 one_below : (b : Bool) (n : ℕ) (i : StmtId) (is : List StmtId) → nat_lt i.place n ≡ true → all_stmts_below n is ≡ true → all_stmts_below n (cond b (i ∷ is) is) ≡ true
 one_below true n i is h g = ap (λ z. z && all_stmts_below n is) h ∙ g
@@ -151,21 +174,11 @@ shape_is d k s e = ap (λ (m : circuit.Made). m.shape) (made_is d k s e)
 
 reset_is : (d : Design) (x k : ℕ) (xs : List Domain) → circuit.is_some_reset x (domains_from d k xs) ≡ some_reset x xs
 reset_is d x k [] = refl
-reset_is d x k (a ∷ as_) = ap (λ b. is_reset_name x (option_map signal_number a.reset) || b) (reset_is d x (k + 1) as_)
+reset_is d x k (a ∷ as_) = ap (λ b. is_named x (option_map signal_number a.reset) || b) (reset_is d x (k + 1) as_)
 
-pub port_is : (d : Design) (x : ℕ) → is_port d x ≡ (circuit.is_among x (map signal_number d.ios) || some_reset x d.domains)
+pub port_is : (d : Design) (x : ℕ) → (circuit.is_among x (map signal_number d.ios) || some_reset x d.domains) ≡ is_port d x
 unfolding is_port circuit_of
-port_is d x = ap (λ b. circuit.is_among x (map signal_number d.ios) || b) (reset_is d x 0 d.domains)
-
-pub port_among : (d : Design) (x : ℕ) (ios : List SigId) (b : Bool) → ios ≡ d.ios → b ≡ circuit.is_among x (map signal_number ios) → b ≡ true → b ≡ is_port d x
-port_among d x ios b e f t =
-    let h : circuit.is_among x (map signal_number d.ios) ≡ true = ap (λ (l : List SigId). circuit.is_among x (map signal_number l)) (sym e) ∙ sym f ∙ t in
-    t ∙ ap (λ z. z || some_reset x d.domains) (sym h) ∙ sym (port_is d x)
-
-pub port_reset : (d : Design) (x : ℕ) (ios : List SigId) (domains : List Domain) (b c : Bool) → ios ≡ d.ios → b ≡ circuit.is_among x (map signal_number ios) → b ≡ false → domains ≡ d.domains → c ≡ some_reset x domains → c ≡ is_port d x
-port_reset d x ios domains b c e f t g k =
-    let h : circuit.is_among x (map signal_number d.ios) ≡ false = ap (λ (l : List SigId). circuit.is_among x (map signal_number l)) (sym e) ∙ sym f ∙ t in
-    k ∙ ap (some_reset x) g ∙ ap (λ z. z || some_reset x d.domains) (sym h) ∙ sym (port_is d x)
+port_is d x = ap (λ b. circuit.is_among x (map signal_number d.ios) || b) (sym (reset_is d x 0 d.domains))
 
 -- a part from bit 0 on covers its signal where it is as long
 pub covers_is : (bits low len : ℕ) → low ≡ 0 → nat_eq len bits ≡ covers bits low len
@@ -173,73 +186,175 @@ covers_is bits low len e = ap (λ b. b && nat_eq len bits) (sym (eq-eqb low 0 e)
 
 -- ---- what drives a signal
 
-abbrev role_after : Option ℕ → Role → Role
-role_after None other = other
-role_after (Some k) other = Sync k
+abbrev has_some : List StmtId → Bool
+has_some [] = false
+has_some (i ∷ is) = true
 
-either_role : (b : Bool) (k : ℕ) (o : Option ℕ) (other : Role) → cond b (Sync k) (role_after o other) ≡ role_after (cond b (Some k) o) other
-either_role true k o other = refl
-either_role false k o other = refl
+driven_own : (d : Design) (x : ℕ) (is : List StmtId) → drives_block x (block d is) ≡ has_some (own d x is)
+unfolding own
+driven_own d x [] = refl
+driven_own d x (i ∷ is) = ap (λ b. drives x (stmt d i.place) || b) (driven_own d x is) ∙ by_answer (drives x (stmt d i.place))
+  where
+    by_answer : (b : Bool) → (b || has_some (own d x is)) ≡ has_some (cond b (i ∷ own d x is) (own d x is))
+    by_answer true = refl
+    by_answer false = refl
 
-sync_is : (d : Design) (x k : ℕ) (xs : List Domain) (pss : List (List Driver)) (other : Role) → AreDomainDrivers d k xs pss → sync_role x k (domains_from d k xs) other ≡ role_after (first_domain x k pss) other
-sync_is d x k [] [] other h = refl
-sync_is d x k [] (ps ∷ pss) other h = absurd h
-sync_is d x k (a ∷ as_) [] other h = absurd h
-sync_is d x k (a ∷ as_) (ps ∷ pss) other h =
-    ap (λ b. cond b (Sync k) (sync_role x (k + 1) (domains_from d (k + 1) as_) other)) (sym (driven_is d x (stmts_of k d.sync) ps h.0))
-    ∙ ap (λ (r : Role). cond (is_driven x ps) (Sync k) r) (sync_is d x (k + 1) as_ pss other h.1)
-    ∙ either_role (is_driven x ps) k (first_domain x (k + 1) pss) other
+-- a domain with statements for the signal, or what follows
+domain_drive : (d : Design) (x k : ℕ) (rest : Role) (ids : List StmtId) → own d x (stmts_of k d.sync) ≡ ids → drive_by d x (cond (has_some ids) (Sync k) rest) ≡ block_or (Some k) ids (drive_by d x rest)
+domain_drive d x k rest [] e = refl
+domain_drive d x k rest (i ∷ is) e = ap (signals.Sync k) e
 
-pub drive_comb : (d : Design) (x : ℕ) (ps : List Driver) → AreDrivers d d.comb ps → is_driven x ps ≡ true → drive d x ≡ combined (own d x d.comb) (single d (own d x d.comb))
-unfolding drive circuit_of
-drive_comb d x ps h e =
-    ap (λ b. drive_by d x (cond b Comb (sync_role x 0 (domains_from d 0 d.domains) (idle_role (circuit_of d) x)))) (sym (driven_is d x d.comb ps h) ∙ e)
+sync_drive : (d : Design) (x k : ℕ) (xs : List Domain) (other : Role) → drive_by d x (sync_role x k (domains_from d k xs) other) ≡ clocked_or d x k xs (drive_by d x other)
+sync_drive d x k [] other = refl
+sync_drive d x k (a ∷ as_) other =
+    let rest = sync_role x (k + 1) (domains_from d (k + 1) as_) other in
+    ap (λ b. drive_by d x (cond b (Sync k) rest)) (driven_own d x (stmts_of k d.sync))
+    ∙ domain_drive d x k rest (own d x (stmts_of k d.sync)) refl
+    ∙ ap (block_or (Some k) (own d x (stmts_of k d.sync))) (sync_drive d x (k + 1) as_ other)
 
-drive_later : (d : Design) (x : ℕ) (ps : List Driver) (pss : List (List Driver)) → AreDrivers d d.comb ps → is_driven x ps ≡ false → AreDomainDrivers d 0 d.domains pss → drive d x ≡ drive_by d x (role_after (first_domain x 0 pss) (idle_role (circuit_of d) x))
-unfolding drive circuit_of
-drive_later d x ps pss h e g =
-    ap (λ b. drive_by d x (cond b Comb (sync_role x 0 (domains_from d 0 d.domains) (idle_role (circuit_of d) x)))) (sym (driven_is d x d.comb ps h) ∙ e)
-    ∙ ap (drive_by d x) (sync_is d x 0 d.domains pss (idle_role (circuit_of d) x) g)
+read_none : (x k : ℕ) (qs : List memory.Port) (other : Role) → EachOf ShowsNothing qs → read_role x k qs other ≡ other
+read_none x k [] other h = refl
+read_none x k (q ∷ qs) other h = ap (λ (o : Option ℕ). cond (is_named x o) (Read k) (read_role x (k + 1) qs other)) h.0 ∙ read_none x (k + 1) qs other h.1
 
-pub drive_sync : (d : Design) (x : ℕ) (ps : List Driver) (pss : List (List Driver)) (k : ℕ) → AreDrivers d d.comb ps → is_driven x ps ≡ false → AreDomainDrivers d 0 d.domains pss → first_domain x 0 pss ≡ Some k → drive d x ≡ Clocked k (own d x (stmts_of k d.sync))
-drive_sync d x ps pss k h e g f =
-    drive_later d x ps pss h e g ∙ ap (λ (o : Option ℕ). drive_by d x (role_after o (idle_role (circuit_of d) x))) f
-
-pub drive_idle : (d : Design) (x : ℕ) (ps : List Driver) (pss : List (List Driver)) → AreDrivers d d.comb ps → is_driven x ps ≡ false → AreDomainDrivers d 0 d.domains pss → first_domain x 0 pss ≡ None → drive d x ≡ drive_by d x (cond (is_port d x) Input Undriven)
+idle_is : (d : Design) (x : ℕ) → drive_by d x (idle_role (circuit_of d) x) ≡ idle_drive (is_input d x)
 unfolding is_port
-drive_idle d x ps pss h e g f =
-    drive_later d x ps pss h e g ∙ ap (λ (o : Option ℕ). drive_by d x (role_after o (idle_role (circuit_of d) x))) f
+idle_is d x = by_answer (is_port d x) (circuit.made (circuit_of d) x).given
+  where
+    by_answer : (b g : Bool) → drive_by d x (cond g Undriven (cond b Input Undriven)) ≡ idle_drive (b && not g)
+    by_answer true true = refl
+    by_answer true false = refl
+    by_answer false true = refl
+    by_answer false false = refl
 
-at_first : (b : Bool) (x k : ℕ) (pss : List (List Driver)) (m n : ℕ) → (first_domain x (k + 1) pss ≡ Some m → m < n) → k < n → cond b (Some k) (first_domain x (k + 1) pss) ≡ Some m → m < n
-at_first true x k pss m n h l e = let same : k ≡ m = cc in subst (λ j. j < n) same l
-at_first false x k pss m n h l e = h e
+-- ---- domains leave no block of `always @(*)`, and none of an earlier domain
 
-first_within : (x k : ℕ) (pss : List (List Driver)) (m : ℕ) → first_domain x k pss ≡ Some m → m < k + length pss
-first_within x k [] m e = absurd (cc)
-first_within x k (ps ∷ pss) m e =
-    at_first (is_driven x ps) x k pss m (k + length (ps ∷ pss)) (λ f. let l = first_within x (k + 1) pss m f in omega arith) (omega arith) e
+no_comb_or : (k : ℕ) (ids : List StmtId) (r : signals.Drive) → is_block None r ≡ false → is_block None (block_or (Some k) ids r) ≡ false
+no_comb_or k [] r h = h
+no_comb_or k (i ∷ is) r h = refl
 
-pub first_there : (x : ℕ) (pss : List (List Driver)) (m : ℕ) → first_domain x 0 pss ≡ Some m → m < length pss
-first_there x pss m e = let l = first_within x 0 pss m e in omega arith
+idle_no_block : (clock : Option ℕ) (b : Bool) → is_block clock (idle_drive b) ≡ false
+idle_no_block None true = refl
+idle_no_block None false = refl
+idle_no_block (Some k) true = refl
+idle_no_block (Some k) false = refl
 
--- ---- how a net is driven
+no_comb : (d : Design) (x k : ℕ) (xs : List Domain) (b : Bool) → is_block None (clocked_or d x k xs (idle_drive b)) ≡ false
+no_comb d x k [] b = idle_no_block None b
+no_comb d x k (a ∷ as_) b = no_comb_or k (own d x (stmts_of k d.sync)) (clocked_or d x (k + 1) as_ (idle_drive b)) (no_comb d x (k + 1) as_ b)
 
-pub combined_is : (d : Design) (x : ℕ) (ps : List Driver) (body slice : List StmtId) (o : Option ExprId) → AreDrivers d d.comb ps → slice ≡ body → body ≡ picked x ps → o ≡ single d slice → combined body o ≡ combined (own d x d.comb) (single d (own d x d.comb))
-combined_is d x ps body slice o h e f g =
-    let same : body ≡ own d x d.comb = f ∙ picked_is d x d.comb ps h in
-    ap (combined body) (g ∙ ap (single d) (e ∙ same)) ∙ ap (λ (is : List StmtId). combined is (single d (own d x d.comb))) same
+not_earlier_or : (j k : ℕ) (ids : List StmtId) (r : signals.Drive) → j < k → is_block (Some j) r ≡ false → is_block (Some j) (block_or (Some k) ids r) ≡ false
+not_earlier_or j k [] r l h = h
+not_earlier_or j k (i ∷ is) r l h = ne_eqb k j (λ e. omega arith)
 
-pub clocked_is : (d : Design) (x : ℕ) (ps : List Driver) (pss : List (List Driver)) (k : ℕ) (qs : List Driver) (body : List StmtId) → AreDrivers d d.comb ps → is_driven x ps ≡ false → AreDomainDrivers d 0 d.domains pss → first_domain x 0 pss ≡ Some k → slice_get pss k ≡ Some qs → body ≡ picked x qs → Clocked k body ≡ drive d x
-clocked_is d x ps pss k qs body h e g f at b =
-    let same : 0 + k ≡ k = omega arith in
-    let there : AreDrivers d (stmts_of k d.sync) qs = subst (λ j. AreDrivers d (stmts_of j d.sync) qs) same (domain_at d 0 d.domains pss k qs g at) in
-    ap (Clocked k) (b ∙ picked_is d x (stmts_of k d.sync) qs there) ∙ sym (drive_sync d x ps pss k h e g f)
+not_earlier : (d : Design) (x j k : ℕ) (xs : List Domain) (b : Bool) → j < k → is_block (Some j) (clocked_or d x k xs (idle_drive b)) ≡ false
+not_earlier d x j k [] b l = idle_no_block (Some j) b
+not_earlier d x j k (a ∷ as_) b l =
+    not_earlier_or j k (own d x (stmts_of k d.sync)) (clocked_or d x (k + 1) as_ (idle_drive b)) l (not_earlier d x j (k + 1) as_ b (omega arith))
 
-pub given_is : (d : Design) (x : ℕ) (ps : List Driver) (pss : List (List Driver)) → AreDrivers d d.comb ps → is_driven x ps ≡ false → AreDomainDrivers d 0 d.domains pss → first_domain x 0 pss ≡ None → is_port d x ≡ true → Given ≡ drive d x
-given_is d x ps pss h e g f p = sym (drive_idle d x ps pss h e g f ∙ ap (λ b. drive_by d x (cond b Input Undriven)) p)
+pub none_combined : (d : Design) (k : ℕ) (rs : List Drive) → AreClocked d k rs → HaveNoBlock None rs
+none_combined d k rs h x l = ap (is_block None) (h.each x (omega (arith, h.long))) ∙ no_comb d x k (drop k d.domains) (is_input d x)
 
-pub held_is : (d : Design) (x : ℕ) (ps : List Driver) (pss : List (List Driver)) → AreDrivers d d.comb ps → is_driven x ps ≡ false → AreDomainDrivers d 0 d.domains pss → first_domain x 0 pss ≡ None → is_port d x ≡ false → Held ≡ drive d x
-held_is d x ps pss h e g f p = sym (drive_idle d x ps pss h e g f ∙ ap (λ b. drive_by d x (cond b Input Undriven)) p)
+pub none_earlier : (d : Design) (j k : ℕ) (rs : List Drive) → j < k → AreClocked d k rs → HaveNoBlock (Some j) rs
+none_earlier d j k rs lt h x l = ap (is_block (Some j)) (h.each x (omega (arith, h.long))) ∙ not_earlier d x j k (drop k d.domains) (is_input d x) lt
+
+-- ---- domains and combinatorial statements
+
+dropped : {T : Type 0} (xs : List T) (k : ℕ) → length xs ≤ k → drop k xs ≡ []
+dropped [] zero l = refl
+dropped [] (suc k) l = refl
+dropped (y ∷ ys) zero l = absurd (omega arith)
+dropped (y ∷ ys) (suc k) l = dropped ys k (omega arith)
+
+pub idle_none : (d : Design) → AreIdle d 0 []
+idle_none d = record { long = refl; each = λ x l. absurd (omega arith) }
+
+pub idle_more : (d : Design) (n : ℕ) (ports : List Bool) (rs : List Drive) (s : Signal) (z : Bool) (r : Drive) → AreMarks d ports → AreIdle d n rs → slice_get d.signals n ≡ Some s → drive_of r ≡ idle_drive (get_or ports n z && not s.by_bus) → AreIdle d (n + 1) (rs ++ r ∷ [])
+idle_more d n ports rs s z r marks h e f = record {
+  long = omega (arith, length-append rs (r ∷ []), h.long);
+  each = below_more _ n
+      (λ x l. let before : x < length rs = omega (arith, h.long) in ap drive_of (at_front rs r x now.Undriven before) ∙ h.each x l)
+      (ap (λ k. drive_of (slice_index_or (rs ++ r ∷ []) k now.Undriven)) (sym h.long)
+      ∙ ap drive_of (at_last rs r now.Undriven)
+      ∙ f
+      ∙ ap (λ b. idle_drive (b && not s.by_bus)) (get_or_default ports n z false there ∙ marks.each n within)
+      ∙ ap (λ (m : circuit.Made). idle_drive (is_port d n && not m.given)) (sym (made_is d n s e)));
+}
+  where
+    within : n < length d.signals
+    within = place_within d.signals n s e
+
+    there : n < length ports
+    there = omega (arith, within, marks.long)
+
+pub idle_clocked : (d : Design) (rs : List Drive) → AreIdle d (length d.signals) rs → AreClocked d (length d.domains) rs
+idle_clocked d rs h = record {
+  long = h.long;
+  each = λ x l. h.each x l ∙ ap (λ (xs : List Domain). clocked_or d x (length d.domains) xs (idle_drive (is_input d x))) (sym (dropped d.domains (length d.domains) (omega arith)));
+}
+
+pub clocked_next : (d : Design) (k : ℕ) (ids : List StmtId) (a b : List Drive) → 0 < k → k ≤ length d.domains → ids ≡ stmts_of (k - 1) d.sync → AreClocked d k a → AreFilled d (Some (k - 1)) ids a b → AreClocked d (k - 1) b
+clocked_next d k ids a b some l e h f = record {
+  long = f.long ∙ h.long;
+  each = λ x lt.
+      let there : x < length a = omega (arith, h.long) in
+      f.each x there
+      ∙ ap (λ (is : List StmtId). block_or (Some (k - 1)) (own d x is) (drive_at a x)) e
+      ∙ ap (block_or (Some (k - 1)) (own d x (stmts_of (k - 1) d.sync))) (h.each x lt ∙ ap (λ j. clocked_or d x j (drop j d.domains) (idle_drive (is_input d x))) back)
+      ∙ ap (λ (xs : List Domain). clocked_or d x (k - 1) xs (idle_drive (is_input d x))) (sym first);
+}
+  where
+    back : k ≡ k - 1 + 1
+    back = omega arith
+
+    within : k - 1 < length d.domains
+    within = omega arith
+
+    z : Domain
+    z = record { name = []; reset = None }
+
+    first : drop (k - 1) d.domains ≡ get_or d.domains (k - 1) z ∷ drop (k - 1 + 1) d.domains
+    first = drop-cons d.domains (k - 1) z within ∙ ap (λ j. get_or d.domains (k - 1) z ∷ drop j d.domains) (sym (add-one (k - 1)))
+
+-- ---- a block that is one whole assignment
+
+comb_drive_is : (ids : List StmtId) (o : Option ExprId) → comb_drive ids o ≡ equal_or o (signals.CombBlock ids)
+comb_drive_is ids None = refl
+comb_drive_is ids (Some value) = refl
+
+not_closed : (d : Design) (r : signals.Drive) → is_block None r ≡ false → closed d r ≡ r
+not_closed d signals.Input e = refl
+not_closed d signals.Undriven e = refl
+not_closed d (signals.CombAssign value) e = refl
+not_closed d (signals.CombBlock body) e = absurd (true≢false e)
+not_closed d (signals.Sync k body) e = refl
+
+comb_is : (d : Design) (x : ℕ) (rest : Role) (ids : List StmtId) → own d x d.comb ≡ ids → is_block None (drive_by d x rest) ≡ false → drive_by d x (cond (has_some ids) Comb rest) ≡ closed d (block_or None ids (drive_by d x rest))
+comb_is d x rest [] e h = sym (not_closed d (drive_by d x rest) h)
+comb_is d x rest (i ∷ is) e h = ap (λ (js : List StmtId). comb_drive js (single d js)) e ∙ comb_drive_is (i ∷ is) (single d (i ∷ is))
+
+pub drive_is : (d : Design) (x : ℕ) → EachOf ShowsNothing (circuit_of d).ports → drive d x ≡ closed d (block_or None (own d x d.comb) (clocked_from d 0 x))
+unfolding drive circuit_of
+drive_is d x nothing_shown =
+    let idle = read_role x 0 (circuit_of d).ports (idle_role (circuit_of d) x) in
+    let rest = sync_role x 0 (domains_from d 0 d.domains) idle in
+    let clocked : drive_by d x rest ≡ clocked_from d 0 x =
+    sync_drive d x 0 d.domains idle ∙ ap (clocked_or d x 0 d.domains) (ap (drive_by d x) (read_none x 0 (circuit_of d).ports (idle_role (circuit_of d) x) nothing_shown) ∙ idle_is d x) in
+    ap (λ b. drive_by d x (cond b Comb rest)) (driven_own d x d.comb)
+    ∙ comb_is d x rest (own d x d.comb) refl (ap (is_block None) clocked ∙ no_comb d x 0 d.domains (is_input d x))
+    ∙ ap (λ (r : signals.Drive). closed d (block_or None (own d x d.comb) r)) clocked
+
+pub drives_are : (d : Design) (a b c : List Drive) → MemoriesFit d → AreClocked d 0 a → AreFilled d None d.comb a b → AreClosed d b c → AreDrives d c
+drives_are d a b c fit h f g = record {
+  long = g.long ∙ f.long ∙ h.long;
+  each = λ k r e.
+      let within : k < length c = place_within c k r e in
+      let in_a : k < length a = omega (arith, f.long, g.long) in
+      let in_b : k < length b = omega (arith, g.long) in
+      ap drive_of (sym (index_is c k r now.Undriven e))
+      ∙ g.each k in_b
+      ∙ ap (closed d) (f.each k in_a ∙ ap (block_or None (own d k d.comb)) (h.each k (omega (arith, h.long))))
+      ∙ sym (drive_is d k fit.show_nothing);
+}
 
 -- ---- what a drive names is there
 
@@ -248,6 +363,7 @@ abbrev IsRole : ℕ → Role → Type 0
 IsRole n Input = Unit {0}
 IsRole n Comb = Unit {0}
 IsRole n (Sync k) = k < n
+IsRole n (Read j) = Unit {0}
 IsRole n Undriven = Unit {0}
 
 either_is : (b : Bool) (n : ℕ) (r q : Role) → IsRole n r → IsRole n q → IsRole n (cond b r q)
@@ -260,24 +376,34 @@ sync_there d x n k (a ∷ as_) other l h =
     let within : k < n = omega arith in
     either_is (drives_block x (block d (stmts_of k d.sync))) n (Sync k) (sync_role x (k + 1) (domains_from d (k + 1) as_) other) within (sync_there d x n (k + 1) as_ other (omega arith) h)
 
+read_there : (x n k : ℕ) (qs : List memory.Port) (other : Role) → IsRole n other → IsRole n (read_role x k qs other)
+read_there x n k [] other h = h
+read_there x n k (q ∷ qs) other h = either_is (is_named x q.reader) n (Read k) (read_role x (k + 1) qs other) tt (read_there x n (k + 1) qs other h)
+
+idle_there : (d : Design) (x n : ℕ) → IsRole n (idle_role (circuit_of d) x)
+idle_there d x n =
+    either_is (circuit.made (circuit_of d) x).given n Undriven (cond (circuit.is_among x (circuit_of d).ios || circuit.is_some_reset x (circuit_of d).domains) Input Undriven) tt
+    (either_is (circuit.is_among x (circuit_of d).ios || circuit.is_some_reset x (circuit_of d).domains) n Input Undriven tt tt)
+
 role_there : (d : Design) (x : ℕ) → IsRole (length d.domains) (role (circuit_of d) x)
 unfolding circuit_of
 role_there d x =
-    either_is (drives_block x (block d d.comb)) (length d.domains) Comb (sync_role x 0 (domains_from d 0 d.domains) (idle_role (circuit_of d) x)) tt
-    (sync_there d x (length d.domains) 0 d.domains (idle_role (circuit_of d) x) (omega arith)
-    (either_is (circuit.is_among x (circuit_of d).ios || circuit.is_some_reset x (circuit_of d).domains) (length d.domains) Input Undriven tt tt))
+    let idle = read_role x 0 (circuit_of d).ports (idle_role (circuit_of d) x) in
+    either_is (drives_block x (block d d.comb)) (length d.domains) Comb (sync_role x 0 (domains_from d 0 d.domains) idle) tt
+    (sync_there d x (length d.domains) 0 d.domains idle (omega arith)
+    (read_there x (length d.domains) 0 (circuit_of d).ports (idle_role (circuit_of d) x) (idle_there d x (length d.domains))))
 
-whole_there : (b : Bool) (d : Design) (value : ExprId) (ids : List StmtId) → IsTrue (all_stmts_below (length d.stmts) ids) → value.place < length d.exprs → IsThere d (combined ids (cond b (Some value) None))
+whole_there : (b : Bool) (d : Design) (value : ExprId) (ids : List StmtId) → IsTrue (all_stmts_below (length d.stmts) ids) → value.place < length d.exprs → IsThere d (comb_drive ids (cond b (Some value) None))
 whole_there true d value ids h l = l
 whole_there false d value ids h l = h
 
-value_there : (d : Design) (k : ℕ) (o : Option Stmt) (ids : List StmtId) → Keeps d → slice_get d.stmts k ≡ o → IsTrue (all_stmts_below (length d.stmts) ids) → IsThere d (combined ids (whole_value d o))
+value_there : (d : Design) (k : ℕ) (o : Option Stmt) (ids : List StmtId) → Keeps d → slice_get d.stmts k ≡ o → IsTrue (all_stmts_below (length d.stmts) ids) → IsThere d (comb_drive ids (whole_value d o))
 value_there d k None ids keeps e h = h
-value_there d k (Some (statement.Assign target value line)) ids keeps e h = whole_there (is_whole d (slice_get d.targets target.place)) d value ids h (keeps.stmts k (statement.Assign target value line) e).1
+value_there d k (Some (statement.Assign target value line)) ids keeps e h = whole_there (is_whole d (slice_get d.targets target.place)) d value ids h (keeps.arenas.stmts k (statement.Assign target value line) e).1
 value_there d k (Some (statement.If branches rest line)) ids keeps e h = h
 value_there d k (Some (statement.Case on arms rest line)) ids keeps e h = h
 
-single_there : (d : Design) (ids : List StmtId) → Keeps d → IsTrue (all_stmts_below (length d.stmts) ids) → IsThere d (combined ids (single d ids))
+single_there : (d : Design) (ids : List StmtId) → Keeps d → IsTrue (all_stmts_below (length d.stmts) ids) → IsThere d (comb_drive ids (single d ids))
 single_there d [] keeps h = h
 single_there d (i ∷ []) keeps h = value_there d i.place (slice_get d.stmts i.place) (i ∷ []) keeps refl h
 single_there d (i ∷ (j ∷ is)) keeps h = h
@@ -285,6 +411,7 @@ single_there d (i ∷ (j ∷ is)) keeps h = h
 by_role_there : (d : Design) (x : ℕ) (r : Role) → Keeps d → IsRole (length d.domains) r → IsThere d (drive_by d x r)
 by_role_there d x Input keeps h = tt
 by_role_there d x Undriven keeps h = tt
+by_role_there d x (Read j) keeps h = tt
 by_role_there d x Comb keeps h = single_there d (own d x d.comb) keeps (own_below d x (length d.stmts) d.comb keeps.comb.there)
 by_role_there d x (Sync k) keeps h = (h, own_below d x (length d.stmts) (stmts_of k d.sync) (domain_there d k d.sync keeps.sync))
 
@@ -303,16 +430,62 @@ unfolding own
 own_plain d x [] h = tt
 own_plain d x (i ∷ is) h = one_plain (drives x (stmt d i.place)) d i (own d x is) h.0 (own_plain d x is h.1)
 
-combined_plain : (d : Design) (ids : List StmtId) (o : Option ExprId) → ArePlain (block d ids) → IsPlainDrive d (combined ids o)
+combined_plain : (d : Design) (ids : List StmtId) (o : Option ExprId) → ArePlain (block d ids) → IsPlainDrive d (comb_drive ids o)
 combined_plain d ids None h = h
 combined_plain d ids (Some value) h = tt
 
 by_role_plain : (d : Design) (x : ℕ) (r : Role) → IsLowered d → IsPlainDrive d (drive_by d x r)
 by_role_plain d x Input low = tt
 by_role_plain d x Undriven low = tt
+by_role_plain d x (Read j) low = tt
 by_role_plain d x Comb low = combined_plain d (own d x d.comb) (single d (own d x d.comb)) (own_plain d x d.comb low.comb)
 by_role_plain d x (Sync k) low = own_plain d x (stmts_of k d.sync) (domain_plain d k d.sync low.sync)
 
 pub drive_plain : (d : Design) (x : ℕ) → IsLowered d → IsPlainDrive d (drive d x)
 unfolding drive
 drive_plain d x low = by_role_plain d x (role (circuit_of d) x) low
+
+-- ---- before the blocks of one whole assignment are written so
+
+or_there : (d : Design) (clock : Option ℕ) (ids : List StmtId) (r : signals.Drive) → IsThere d (block_of clock ids) → IsThere d r → IsThere d (block_or clock ids r)
+or_there d clock [] r h g = g
+or_there d clock (i ∷ is) r h g = h
+
+clocked_there : (d : Design) (x k : ℕ) (xs : List Domain) (b : Bool) → Keeps d → k + length xs ≤ length d.domains → IsThere d (clocked_or d x k xs (idle_drive b))
+clocked_there d x k [] true keeps l = tt
+clocked_there d x k [] false keeps l = tt
+clocked_there d x k (a ∷ as_) b keeps l =
+    or_there d (Some k) (own d x (stmts_of k d.sync)) (clocked_or d x (k + 1) as_ (idle_drive b))
+    (omega arith, own_below d x (length d.stmts) (stmts_of k d.sync) (domain_there d k d.sync keeps.sync)) (clocked_there d x (k + 1) as_ b keeps (omega arith))
+
+pub all_there : (d : Design) (a b : List Drive) → Keeps d → AreClocked d 0 a → AreFilled d None d.comb a b → AllAreThere d b
+all_there d a b keeps h f = record {
+  each = λ x l.
+      let in_a : x < length a = omega (arith, f.long) in
+      let is = f.each x in_a ∙ ap (block_or None (own d x d.comb)) (h.each x (omega (arith, h.long))) in
+      subst (IsThere d) (sym is)
+      (or_there d None (own d x d.comb) (clocked_from d 0 x) (own_below d x (length d.stmts) d.comb keeps.comb.there) (clocked_there d x 0 d.domains (is_input d x) keeps (omega arith)));
+}
+
+-- ---- those are
+
+pub closed_none : (d : Design) (rs : List Drive) → AreClosedTo d 0 rs rs
+closed_none d rs = record { long = refl; done = λ x l. absurd (omega arith); left = λ x l. refl }
+
+closed_at : (d : Design) (x : ℕ) (a b : List Drive) (q : Drive) → AreClosedTo d x a b → x < length b → q ≡ get_or b x q → drive_of q ≡ drive_at a x
+closed_at d x a b q h l e = ap drive_of (e ∙ get_or_default b x q now.Undriven l) ∙ h.left x (omega arith)
+
+pub there_in : (d : Design) (x : ℕ) (a b : List Drive) (q : Drive) → AllAreThere d a → AreClosedTo d x a b → x < length b → q ≡ get_or b x q → IsThere d (drive_of q)
+there_in d x a b q t h l e = subst (IsThere d) (sym (closed_at d x a b q h l e)) (t.each x (omega (arith, h.long)))
+
+pub closed_next : (d : Design) (x : ℕ) (a b : List Drive) (q r : Drive) → AreClosedTo d x a b → x < length b → q ≡ get_or b x q → drive_of r ≡ closed d (drive_of q) → AreClosedTo d (x + 1) a (set b x r)
+closed_next d x a b q r h l e f = record {
+  long = length-set b x r ∙ h.long;
+  done = below_more _ x
+      (λ y lt. let other : y ≢ x = omega arith in at_set_other b x y r other ∙ h.done y lt)
+      (at_set_same b x r l ∙ f ∙ ap (closed d) (closed_at d x a b q h l e));
+  left = λ y lt. let other : y ≢ x = omega arith in at_set_other b x y r other ∙ h.left y (omega arith);
+}
+
+pub closed_all : (d : Design) (n : ℕ) (a b : List Drive) → length b ≤ n → AreClosedTo d n a b → AreClosed d a b
+closed_all d n a b l h = record { long = h.long; each = λ x lt. h.done x (omega (arith, h.long)) }

@@ -1,13 +1,13 @@
 -- What a lowered statement is made of.
 use Rattle.std.proofs.Common.{◌≡◌, ℕ, ◌<◌, true, false, ◌&&◌, ◌⊎◌, inl, inr, List, [], ◌∷◌, length, refl, sym, ap, subst, ◌∙◌}
-use Rattle.std.specs.Prelude.{Option, Some, slice_get, IsTrue}
+use Rattle.std.specs.Prelude.{Some, slice_get, IsTrue}
 use Rattle.lx_circuit.specs.Statements as circuit
 use Rattle.lx_vtree.proofs.Exprs.{both}
 use Rattle.lx_fhdl.specs.Below.{ExprId, TargetId, StmtId, all_stmts_below, all_branches_below, stmt_below}
-use Rattle.lx_fhdl.specs.Designs.{term, target, stmt, block}
+use Rattle.lx_fhdl.specs.Designs.{shapes, term, target, stmt, block}
 use Rattle.lx_fhdl.specs.Keeping.{TargetStands, StmtStands, Keeps}
 use Rattle.lx_fhdl.specs.Lowered.{is_plain_target, is_lone, is_for, branches_are_for, are_for, IsPlain, ArePlain}
-use Rattle.lx_fhdl.specs.Stmts.{branches_at, node_stmt, target_of, target_within, target_at}
+use Rattle.lx_fhdl.specs.Stmts.{branches_at, node_stmt}
 use Rattle.lx_fhdl.specs.declared.stmts.Target.{Target}
 use Rattle.lx_fhdl.specs.declared.stmts.Target.TheVariants as of
 use Rattle.lx_fhdl.specs.declared.stmts.Branch.{Branch}
@@ -15,27 +15,26 @@ use Rattle.lx_fhdl.specs.declared.stmts.Stmt.{Stmt}
 use Rattle.lx_fhdl.specs.declared.stmts.Stmt.TheVariants as node
 use Rattle.lx_fhdl.specs.declared.design.Design.{Design}
 use Rattle.lx_emit.specs.Drives.{IsPlainTarget}
-use Rattle.lx_emit.proofs.Inside.{stmt_is}
+use Rattle.lx_emit.proofs.Inside.{stmt_is, target_is}
 
-pub target_stands : (d : Design) (k : ℕ) (x y : Target) → Keeps d → slice_get d.targets k ≡ Some x → x ≡ y → TargetStands d y
-target_stands d k x y keeps e f = keeps.targets k y (e ∙ ap (λ (z : Target). Some z) f)
+pub target_stands : (d : Design) (k : ℕ) (x y : Target) → Keeps d → slice_get d.targets k ≡ Some x → x ≡ y → TargetStands (shapes d) (length d.signals) d.exprs y
+target_stands d k x y keeps e f = keeps.arenas.targets k y (e ∙ ap (λ (z : Target). Some z) f)
 
 -- a target of several signals
 abbrev pub IsMany : Target → Type 0
 IsMany x = ((parts : List TargetId) × (x ≡ of.Cat parts)) ⊎ ((items : List TargetId) × (index : ExprId) × (x ≡ of.Pick items index))
 
-many : (d : Design) (x : ℕ) (k : ℕ) (y : Target) → slice_get d.targets k ≡ Some y → IsMany y → is_plain_target x (target d k) ≡ false
-unfolding target_at target_within
-many d x k y e (inl (parts, f)) = ap (λ (o : Option Target). is_plain_target x (target_of (term d) (target_within (term d) d.targets k) o)) (e ∙ ap (λ (z : Target). Some z) f)
-many d x k y e (inr (items, index, f)) = ap (λ (o : Option Target). is_plain_target x (target_of (term d) (target_within (term d) d.targets k) o)) (e ∙ ap (λ (z : Target). Some z) f)
+many : (d : Design) (x : ℕ) (k : ℕ) (y : Target) → Keeps d → slice_get d.targets k ≡ Some y → IsMany y → is_plain_target x (target d k) ≡ false
+many d x k y keeps e (inl (parts, f)) = ap (is_plain_target x) (target_is d k (of.Cat parts) keeps (e ∙ ap (λ (z : Target). Some z) f))
+many d x k y keeps e (inr (items, index, f)) = ap (is_plain_target x) (target_is d k (of.Pick items index) keeps (e ∙ ap (λ (z : Target). Some z) f))
 
-pub not_many : (d : Design) (k : ℕ) (y : Target) → IsPlainTarget (target d k) → slice_get d.targets k ≡ Some y → IsMany y → ⊥
-not_many d k y p e m = let f : true ≡ false = sym p.alone ∙ many d p.signal k y e m in absurd (cc)
+pub not_many : (d : Design) (k : ℕ) (y : Target) → Keeps d → IsPlainTarget (target d k) → slice_get d.targets k ≡ Some y → IsMany y → ⊥
+not_many d k y keeps p e m = let f : true ≡ false = sym p.alone ∙ many d p.signal k y keeps e m in absurd (cc)
 
 -- ---- statements
 
-pub stmt_stands : (d : Design) (k : ℕ) (x y : Stmt) → Keeps d → slice_get d.stmts k ≡ Some x → x ≡ y → StmtStands d y
-stmt_stands d k x y keeps e f = keeps.stmts k y (e ∙ ap (λ (z : Stmt). Some z) f)
+pub stmt_stands : (d : Design) (k : ℕ) (x y : Stmt) → Keeps d → slice_get d.stmts k ≡ Some x → x ≡ y → StmtStands (length d.exprs) (length d.targets) y
+stmt_stands d k x y keeps e f = keeps.arenas.stmts k y (e ∙ ap (λ (z : Stmt). Some z) f)
 
 plain_node : (d : Design) (k : ℕ) (x y : Stmt) → Keeps d → IsPlain (stmt d k) → slice_get d.stmts k ≡ Some x → x ≡ y → IsPlain (node_stmt (term d) (target d) (stmt d) y)
 plain_node d k x y keeps p e f = subst (λ (s : circuit.Stmt). IsPlain s) (stmt_is d k y keeps (e ∙ ap (λ (z : Stmt). Some z) f)) p
@@ -54,7 +53,7 @@ pub record IsLoneIf (d : Design) (k : ℕ) (branches : List Branch) (rest : List
   pub plain_body : ArePlain (block d branch.body)
   pub plain_rest : ArePlain (block d rest)
 
-lone : (d : Design) (k : ℕ) (branches : List Branch) (rest : List StmtId) (line : ℕ) → IsPlain (node_stmt (term d) (target d) (stmt d) (node.If branches rest line)) → StmtStands d (node.If branches rest line) → IsTrue (stmt_below (node.If branches rest line) k)
+lone : (d : Design) (k : ℕ) (branches : List Branch) (rest : List StmtId) (line : ℕ) → IsPlain (node_stmt (term d) (target d) (stmt d) (node.If branches rest line)) → StmtStands (length d.exprs) (length d.targets) (node.If branches rest line) → IsTrue (stmt_below (node.If branches rest line) k)
     → IsLoneIf d k branches rest
 lone d k [] rest line p s b = let h : false ≡ true = p.alone in absurd (cc)
 lone d k (x ∷ (y ∷ ys)) rest line p s b = let h : false ≡ true = p.alone in absurd (cc)

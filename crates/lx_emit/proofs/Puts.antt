@@ -3,6 +3,7 @@ use Rattle.std.proofs.Common.{◌≡◌, ℕ, zero, suc, ◌+◌, ◌<◌, ◌�
 use Rattle.std.specs.Prelude.{Result, Ok, Err, IfOk, OnOk, IsTrue}
 use Rattle.std.proofs.Math.Seq.{take-suc, take-length}
 use Rattle.lx_arena.specs.declared.Id.{Id}
+use Rattle.lx_arena.proofs.Folds.{grows_then, hangs_then}
 use Rattle.lx_vtext.specs.Tree as tree
 use Rattle.lx_vtree.specs.declared.nodes.VExpr.{VExpr}
 use Rattle.lx_vtree.specs.declared.nodes.VExpr.TheVariants as node
@@ -29,14 +30,14 @@ pub put_ok : {E : Type 0} (r : Result (Id InExprs) E) (old new : List VExpr) (t 
 put_ok r old new t u e h = subst (λ (x : tree.VExpr). IfOk r (λ i. Put old new i.place x)) e h
 
 pub grows_more : (a b c : List VExpr) → Grows a b → Grows b c → Grows a c
-grows_more a b c g h = record { longer = omega (arith, g.longer, h.longer); stays = λ id l. h.stays id (omega (arith, g.longer)) ∙ g.stays id l }
+grows_more a b c g h = grows_then tree_at a b c g h
 
 -- a tree that was put stays
 pub kept : (a b c : List VExpr) (i : ℕ) (t : tree.VExpr) → Put a b i t → Grows b c → Put a c i t
-kept a b c i t p g = record { grows = grows_more a b c p.grows g; within = omega (arith, p.within, g.longer); tree = g.stays i p.within ∙ p.tree }
+kept a b c i t p g = hangs_then tree_at a b c i t p g
 
 pub put_node : (a b c : List VExpr) (i : ℕ) (e : VExpr) (t : tree.VExpr) → Grows a b → Added b c i e → plant (tree_at b) e ≡ t → Put a c i t
-put_node a b c i e t g p s = record { grows = grows_more a b c g p.grows; within = p.within; tree = p.tree ∙ s }
+put_node a b c i e t g p s = record { grows = grows_more a b c g p.grows; within = p.within; is = p.is ∙ s }
 
 -- ---- parts
 
@@ -45,7 +46,7 @@ plants_stay a b [] h g = refl
 plants_stay a b (i ∷ is) h g =
     let p = both _ _ h in
     let l = ltb-true i.place (length a) p.0 in
-    rw (g.stays i.place l, plants_stay a b is p.1 g) refl
+    rw (g.trees i.place l, plants_stay a b is p.1 g) refl
 
 below_wider : (ids : List Ref) (n m : ℕ) → are_below ids n ≡ true → n ≤ m → are_below ids m ≡ true
 below_wider [] n m h l = refl
@@ -78,7 +79,7 @@ parts_more a b c o xs k d ids i l h p = record {
   within = below_more ids i (length c) (below_wider ids (length b) (length c) h.within p.grows.longer) p.within;
   trees =
       plants_then (tree_at c) ids i
-      ∙ ap (then (plants (tree_at c) ids)) p.tree
+      ∙ ap (then (plants (tree_at c) ids)) p.is
       ∙ ap (λ (ts : tree.VExprs). then ts (o (get_or xs k d).place)) (plants_stay b c ids h.within p.grows ∙ h.trees)
       ∙ sym (parts_then o (drop (k + 1) xs) tree.NoMore (o (get_or xs k d).place))
       ∙ ap (λ (ys : List ExprId). parts_onto o ys tree.NoMore) (sym (next_part xs k d l));
@@ -101,11 +102,11 @@ all_taken n (suc k) [] h = refl
 all_taken n (suc k) (x ∷ xs) h = let p = both (nat_lt x.place n) (all_below n xs) h in rw (p.0, all_taken n k xs p.1) refl
 
 pub cat_is : (a b c e : List VExpr) (o : ℕ → tree.VExpr) (xs : List ExprId) (d : ExprId) (first : Ref) (more : List Ref) (i : ℕ) → 0 < length xs → Put a b first.place (o (get_or xs (length xs - 1) d).place)
-    → PutParts b c more (parts_onto o (take (length xs - 1) xs) tree.NoMore) → Added c e i (node.Concat first more) → Put a e i (cat_text o xs)
+    → PutParts b c more (parts_onto o (take (length xs - 1) xs) tree.NoMore) → Added c e i (node.Concatenation first more) → Put a e i (cat_text o xs)
 cat_is a b c e o xs d first more i h p q r =
     let trees : tree.More (tree_at c first.place) (plants (tree_at c) more) ≡ parts_onto o xs tree.NoMore =
-    ap (λ (t : tree.VExpr). tree.More t (plants (tree_at c) more)) (kept a b c first.place (o (get_or xs (length xs - 1) d).place) p q.grows).tree
+    ap (λ (t : tree.VExpr). tree.More t (plants (tree_at c) more)) (kept a b c first.place (o (get_or xs (length xs - 1) d).place) p q.grows).is
     ∙ ap (tree.More (o (get_or xs (length xs - 1) d).place)) q.trees
     ∙ sym (parts_last o (take (length xs - 1) xs) (get_or xs (length xs - 1) d) tree.NoMore)
     ∙ ap (λ (ys : List ExprId). parts_onto o ys tree.NoMore) (sym (last_apart xs d h)) in
-    put_node a c e i (node.Concat first more) (cat_text o xs) (grows_more a b c p.grows q.grows) r (ap concat_of trees)
+    put_node a c e i (node.Concatenation first more) (cat_text o xs) (grows_more a b c p.grows q.grows) r (ap concat_of trees)

@@ -19,7 +19,7 @@ use Rattle.lx_vtree.specs.Trees.{tree_at}
 use Rattle.lx_vtree.specs.Stmts.{StmtRef, plant_block, stmt_at, is_stmt_below, StmtsPlaced}
 use Rattle.lx_fhdl.specs.Below.{StmtId}
 use Rattle.lx_fhdl.specs.Designs.{circuit_of}
-use Rattle.lx_fhdl.specs.Keeping.{EachOf, HasResetPath, IsDomain, Keeps}
+use Rattle.lx_fhdl.specs.Keeping.{EachOf, HasResetPath, IsReset, IsDomain, Keeps}
 use Rattle.lx_fhdl.specs.declared.exprs.SigId.{SigId}
 use Rattle.lx_fhdl.specs.declared.design.Signal.{Signal}
 use Rattle.lx_fhdl.specs.declared.design.Domain.{Domain}
@@ -70,12 +70,12 @@ path_there : (xs : List Signal) (x : Domain) (k : ℕ) (o : Option Signal) → s
 path_there xs x k None e h = absurd h
 path_there xs x k (Some s) e h = place_within xs k s e
 
-resets_there : (xs : List Signal) (x : Domain) (o : Option SigId) → IfSome o (λ r. HasResetPath x (slice_get xs r.0)) → IfSome o (λ r. r.0 < length xs)
-resets_there xs x None h = tt
-resets_there xs x (Some r) h = path_there xs x r.0 (slice_get xs r.0) refl h
+resets_there : (d : Design) (x : Domain) (o : Option SigId) → IfSome o (IsReset d x) → IfSome o (λ r. r.0 < length d.signals)
+resets_there d x None h = tt
+resets_there d x (Some r) h = path_there d.signals x r.0 (slice_get d.signals r.0) refl h.path
 
 pub reset_there : (d : Design) (n : ℕ) (x : Domain) → Keeps d → slice_get d.domains n ≡ Some x → IfSome x.reset (λ r. r.0 < length d.signals)
-reset_there d n x keeps e = resets_there d.signals x x.reset (each_of (IsDomain d) d.domains n x keeps.domains e).reset
+reset_there d n x keeps e = resets_there d x x.reset (each_of (IsDomain d) d.domains n x keeps.domains e).reset
 
 -- ---- targets and blocks
 
@@ -116,6 +116,9 @@ reset_put e0 e1 e2 s0 s1 s2 before between last g ids t end e p q f =
     (end_after (texts_of g ids) (t ∷ []) tree.EndBlock ∙ texts_block g ids (tree.InBlock t tree.EndBlock) ∙ ap (block_onto g ids) f)
     (stmts_block e0 e2 s0 s2 before (between ++ last ∷ []) (texts_of g ids ++ t ∷ []) e (stmts_more e0 e1 e2 s0 s1 s2 before between (texts_of g ids) last t p q))
 
+pub no_else : (e : List VExpr) (s : List VStmt) → StmtsPlaced (length e) s → PutElse e e s s None tree.NoElse
+no_else e s p = record { grows = both_none e s p; within = refl; tree = refl }
+
 lone_block : (e0 e1 : List VExpr) (s0 s1 : List VStmt) (i : StmtRef) (ids : List StmtRef) (t : tree.VStmt) → PutStmt e0 e1 s0 s1 i.place t → ids ≡ i ∷ [] → PutBlock e0 e1 s0 s1 ids (tree.InBlock t tree.EndBlock)
 lone_block e0 e1 s0 s1 i ids t p e = record {
   grows = p.grows;
@@ -123,12 +126,16 @@ lone_block e0 e1 s0 s1 i ids t p e = record {
   tree = ap (plant_block (stmt_at (tree_at e1) s1)) e ∙ ap (λ (u : tree.VStmt). tree.InBlock u tree.EndBlock) p.tree;
 }
 
+-- one statement under a condition
+pub lone_when : (e0 e1 e2 : List VExpr) (s0 s1 s2 : List VStmt) (lone : StmtRef) (so : List StmtRef) (c : Ref) (i : ℕ) (t : tree.VStmt) (u : tree.VExpr) → PutStmt e0 e1 s0 s1 lone.place t → so ≡ lone ∷ [] → EachLower is_stmt_below s1 → Put e1 e2 c.place u
+    → AddedStmt (tree_at e2) s1 s2 i (node.When c so None) → StmtsPlaced (length e2) s2 → PutStmt e0 e2 s0 s2 i (tree.When u (tree.InBlock t tree.EndBlock) tree.NoElse)
+lone_when e0 e1 e2 s0 s1 s2 lone so c i t u p e low put a placed =
+    when_put e0 e1 e1 e2 s0 s1 s1 s2 so None c (tree.InBlock t tree.EndBlock) tree.NoElse u i (lone_block e0 e1 s0 s1 lone so t p e) (no_else e1 s1 p.grows.placed) low put a placed
+
 -- the signal takes its reset value where the reset is high
 pub reset_stmt_put : (e0 e1 e2 : List VExpr) (s0 s1 s2 : List VStmt) (assign : StmtRef) (so : List StmtRef) (c : Ref) (i : ℕ) (d : Design) (names : List Name) (x : ℕ) (r : SigId) (n : Name)
     → PutStmt e0 e1 s0 s1 assign.place (tree.Assign (tree.Whole (net names x)) false (reset_text d x)) → so ≡ assign ∷ [] → n ≡ net names r.0 → EachLower is_stmt_below s1 → Put e1 e2 c.place (tree.Net n)
     → AddedStmt (tree_at e2) s1 s2 i (node.When c so None) → StmtsPlaced (length e2) s2 → PutStmt e0 e2 s0 s2 i (reset_stmt d names x r)
 reset_stmt_put e0 e1 e2 s0 s1 s2 assign so c i d names x r n p e f low put a placed =
-    let body = lone_block e0 e1 s0 s1 assign so (tree.Assign (tree.Whole (net names x)) false (reset_text d x)) p e in
-    let none : PutElse e1 e1 s1 s1 None tree.NoElse = record { grows = both_none e1 s1 p.grows.placed; within = refl; tree = refl } in
-    let condition = subst (λ (m : Name). Put e1 e2 c.place (tree.Net m)) f put in
-    when_put e0 e1 e1 e2 s0 s1 s1 s2 so None c (tree.InBlock (tree.Assign (tree.Whole (net names x)) false (reset_text d x)) tree.EndBlock) tree.NoElse (tree.Net (net names r.0)) i body none low condition a placed
+    lone_when e0 e1 e2 s0 s1 s2 assign so c i (tree.Assign (tree.Whole (net names x)) false (reset_text d x)) (tree.Net (net names r.0)) p e low
+    (subst (λ (m : Name). Put e1 e2 c.place (tree.Net m)) f put) a placed

@@ -1,22 +1,19 @@
 -- The texts of a design's statements, from those of the statements inside.
-use Rattle.std.proofs.Common.{◌≡◌, ℕ, zero, suc, ◌<◌, Bool, true, List, [], ◌∷◌, refl, sym, ap, ◌∙◌, arith, ltb-true}
-use Rattle.std.specs.Prelude.{Option, Some, None, slice_get, IsTrue, IfSome}
+use Rattle.std.proofs.Common.{◌≡◌, ℕ, Bool, true, List, [], ◌∷◌, refl, sym, ap, ◌∙◌, ltb-true}
+use Rattle.std.specs.Prelude.{Some, slice_get}
 use Rattle.lx_arena.specs.Lower.{EachLower}
+use Rattle.lx_arena.specs.Folds.{Same}
+use Rattle.lx_arena.proofs.Folds.{fold_at-is}
 use Rattle.lx_vtext.specs.Tree as tree
 use Rattle.lx_vtext.specs.Tree.{Name}
 use Rattle.lx_vtree.proofs.Exprs.{both}
 use Rattle.lx_fhdl.specs.Below.{StmtId, all_stmts_below, all_branches_below, stmt_below}
-use Rattle.lx_fhdl.specs.Designs.{target}
 use Rattle.lx_fhdl.specs.declared.stmts.Branch.{Branch}
 use Rattle.lx_fhdl.specs.declared.stmts.Stmt.{Stmt}
 use Rattle.lx_fhdl.specs.declared.stmts.Stmt.TheVariants as node
 use Rattle.lx_fhdl.specs.declared.design.Design.{Design}
 use Rattle.lx_emission.specs.Nodes.{operand}
-use Rattle.lx_emission.specs.Texts.{block_onto, else_text, if_text, stmt_text_of, stmt_text_within, stmt_text}
-
--- the same below n
-abbrev Same : {T : Type 0} → (ℕ → T) → (ℕ → T) → ℕ → Type 0
-Same f g n = (k : ℕ) → k < n → f k ≡ g k
+use Rattle.lx_emission.specs.Texts.{block_onto, else_text, if_text, no_text, node_stmt_text, stmt_text}
 
 onto_same : (f g : ℕ → tree.VStmt) (n : ℕ) (ids : List StmtId) (end : tree.VBlock) → Same f g n → all_stmts_below n ids ≡ true → block_onto f ids end ≡ block_onto g ids end
 onto_same f g n [] end s h = refl
@@ -30,24 +27,15 @@ if_same : (o : ℕ → tree.VExpr) (f g : ℕ → tree.VStmt) (n : ℕ) (bs : Li
 if_same o f g n [] rest s h l = refl
 if_same o f g n (b ∷ bs) rest s h l = let p = both _ _ h in rw (onto_same f g n b.body tree.EndBlock s p.0, else_same f g n rest s l) refl
 
-text_same : (d : Design) (names : List Name) (now : Bool) (f g : ℕ → tree.VStmt) (n : ℕ) (o : Option Stmt) → Same f g n → IfSome o (λ x. IsTrue (stmt_below x n)) → stmt_text_of d names now f o ≡ stmt_text_of d names now g o
-text_same d names now f g n None s h = refl
-text_same d names now f g n (Some (node.Assign target value line)) s h = refl
-text_same d names now f g n (Some (node.If branches rest line)) s h = let p = both _ _ h in if_same (operand d names) f g n branches rest s p.0 p.1
-text_same d names now f g n (Some (node.Case on arms rest line)) s h = refl
+text_same : (d : Design) (names : List Name) (now : Bool) (f g : ℕ → tree.VStmt) (n : ℕ) (x : Stmt) → Same f g n → stmt_below x n ≡ true → node_stmt_text d names now f x ≡ node_stmt_text d names now g x
+text_same d names now f g n (node.Assign target value line) s h = refl
+text_same d names now f g n (node.If branches rest line) s h = let p = both _ _ h in if_same (operand d names) f g n branches rest s p.0 p.1
+text_same d names now f g n (node.Case on arms rest line) s h = refl
 
-text_deeper : (d : Design) (names : List Name) (now : Bool) → EachLower stmt_below d.stmts → (n m k : ℕ) → k < n → k < m → stmt_text_within d names now n k ≡ stmt_text_within d names now m k
-unfolding stmt_text_within
-text_deeper d names now low zero m k p q = absurd (omega arith)
-text_deeper d names now low (suc n) zero k p q = absurd (omega arith)
-text_deeper d names now low (suc n) (suc m) k p q =
-    text_same d names now (stmt_text_within d names now n) (stmt_text_within d names now m) k (slice_get d.stmts k) (λ j l. text_deeper d names now low n m j (omega arith) (omega arith)) (low k)
-
-pub text_is : (d : Design) (names : List Name) (now : Bool) (k : ℕ) (x : Stmt) → EachLower stmt_below d.stmts → slice_get d.stmts k ≡ Some x → stmt_text d names now k ≡ stmt_text_of d names now (stmt_text d names now) (Some x)
-unfolding stmt_text stmt_text_within
+pub text_is : (d : Design) (names : List Name) (now : Bool) (k : ℕ) (x : Stmt) → EachLower stmt_below d.stmts → slice_get d.stmts k ≡ Some x → stmt_text d names now k ≡ node_stmt_text d names now (stmt_text d names now) x
+unfolding stmt_text
 text_is d names now k x low e =
-    text_same d names now (stmt_text_within d names now k) (stmt_text d names now) k (slice_get d.stmts k) (λ j l. text_deeper d names now low k (suc j) j l (omega arith)) (low k)
-    ∙ ap (stmt_text_of d names now (stmt_text d names now)) e
+    fold_at-is stmt_below no_text (node_stmt_text d names now) (record { same = text_same d names now }) d.stmts low k x e
 
 -- the one item of a list
 pub first_is : {T : Type 0} (xs : List T) (x y : T) → xs ≡ x ∷ [] → slice_get xs 0 ≡ Some y → y ≡ x

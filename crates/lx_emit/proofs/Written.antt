@@ -1,20 +1,35 @@
 -- The texts of nodes.
-use Rattle.std.proofs.Common.{◌≡◌, ℕ, ◌<◌, ◌≤◌, Bool, true, false, ◌⊎◌, inl, inr, List, [], ◌∷◌, refl, sym, ap, ◌∙◌, arith, ltb-true, lt-ltb}
-use Rattle.std.specs.Prelude.{ℤ, Some, slice_get, IsTrue}
+use Rattle.std.proofs.Common.{◌≡◌, ℕ, ◌<◌, ◌≤◌, Bool, true, false, ◌⊎◌, inl, inr, List, [], ◌∷◌, length, refl, sym, ap, ◌∙◌, arith, ltb-true, lt-ltb}
+use Rattle.std.specs.Prelude.{ℤ, Option, Some, None, slice_get, IsTrue, IsSomeAnd}
 use Rattle.lx_vtree.proofs.Exprs.{both}
 use Rattle.lx_fhdl.specs.Below.{ExprId, all_below, expr_below}
 use Rattle.lx_fhdl.specs.Lowered.{is_no_pick}
 use Rattle.lx_fhdl.specs.declared.exprs.SigId.{SigId}
 use Rattle.lx_fhdl.specs.declared.exprs.Expr.{Expr}
-use Rattle.lx_fhdl.specs.declared.exprs.Expr.TheVariants.{Const, Sig, Cat, Pick}
+use Rattle.lx_fhdl.specs.declared.exprs.Expr.TheVariants.{Const, Sig, Cat, Pick, Fetch}
 use Rattle.lx_emission.specs.Naming.{has_net}
-use Rattle.lx_emission.specs.Nodes.{node_shape, operand, node_text_of, node_text}
-use Rattle.lx_emit.specs.declared.tables.Sheet.{Sheet}
+use Rattle.lx_emission.specs.Nodes.{node_shape, node_text_of, node_text}
+use Rattle.lx_fhdl.specs.declared.design.Memory.{Memory}
+use Rattle.lx_fhdl.specs.declared.design.Design.{Design}
+use Rattle.lx_fhdl.specs.Keeping.{Keeps}
+use Rattle.lx_emit.specs.Plans.{Plan, memory_in, node_in, operand_in}
 use Rattle.lx_emit.specs.Tables.{text_of}
+use Rattle.lx_emit.proofs.Operands.{place_within}
 
-pub text_is : (s : Sheet) (k : ℕ) (x y : Expr) → slice_get s.design.now.exprs k ≡ Some x → x ≡ y → text_of s y ≡ node_text s.design.now s.names.now k
+pub text_is : (p : Plan) (k : ℕ) (x y : Expr) → slice_get p.design.exprs k ≡ Some x → x ≡ y → text_of p y ≡ node_in p k
 unfolding node_text
-text_is s k x y e f = sym (ap (node_text_of (node_shape s.design.now) (operand s.design.now s.names.now)) e ∙ ap (text_of s) f)
+text_is p k x y e f = sym (ap (node_text_of (memory_in p) (node_shape p.design) (operand_in p)) e ∙ ap (text_of p) f)
+
+-- the memory that a node reads
+pub memory_there : (d : Design) (k : ℕ) (x : Expr) (memory width : ℕ) (at : ExprId) → Keeps d → slice_get d.exprs k ≡ Some x → x ≡ Fetch memory width at → memory < length d.memories
+memory_there d k x memory width at keeps e f = some_there d.memories memory width (keeps.arenas.named k (Fetch memory width at) (e ∙ ap (λ (y : Expr). Some y) f))
+  where
+    by_answer : (ms : List Memory) (m : ℕ) (o : Option Memory) → slice_get ms m ≡ o → IsSomeAnd o (λ (y : Memory). width ≡ y.width) → m < length ms
+    by_answer ms m None e h = absurd h
+    by_answer ms m (Some y) e h = place_within ms m y e
+
+    some_there : (ms : List Memory) (m n : ℕ) → IsSomeAnd (slice_get ms m) (λ (y : Memory). width ≡ y.width) → m < length ms
+    some_there ms m n h = by_answer ms m (slice_get ms m) refl h
 
 -- what is no operator, or picks an item
 abbrev pub IsOther : Expr → Type 0

@@ -1,18 +1,18 @@
 -- What drives the net of each signal, as the code has it.
-use Rattle.std.specs.Prelude.{◌≡◌, ℕ, Bool, false, ◌+◌, ◌<◌, ◌||◌, List, [], ◌∷◌, Option, Some, None, length, nat_eq, option_map, slice_get, if◌then◌else◌, IsTrue}
+use Rattle.std.specs.Prelude.{◌≡◌, ℕ, Bool, true, false, ◌+◌, ◌<◌, ◌≤◌, ◌&&◌, List, [], ◌∷◌, ◌++◌, Option, Some, None, drop, length, nat_eq, not, slice_get, slice_index_or, if◌then◌else◌, IsTrue}
 use Rattle.lx_circuit.specs.Statements as tree
-use Rattle.lx_circuit.specs.Circuit.{is_reset_name}
-use Rattle.lx_fhdl.specs.Below.{StmtId, all_stmts_below}
-use Rattle.lx_fhdl.specs.Designs.{stmt, block, stmts_of, signal_number}
-use Rattle.lx_fhdl.specs.Lowered.{is_plain_target, is_for, ArePlain}
+use Rattle.lx_circuit.specs.Circuit.{made}
+use Rattle.lx_fhdl.specs.Below.{ExprId, StmtId, all_stmts_below}
+use Rattle.lx_fhdl.specs.Designs.{block, circuit_of, stmts_of}
+use Rattle.lx_fhdl.specs.Lowered.{is_plain_target, ArePlain}
 use Rattle.lx_fhdl.specs.declared.stmts.Branch.{Branch}
 use Rattle.lx_fhdl.specs.declared.design.Domain.{Domain}
 use Rattle.lx_fhdl.specs.declared.design.Design.{Design}
+use Rattle.lx_emission.specs.Emission.{is_port}
 use Rattle.lx_emission.specs.Signals as signals
+use Rattle.lx_emission.specs.Signals.{own, single}
 use Rattle.lx_emit.specs.declared.drives.Drive.{Drive}
-use Rattle.lx_emit.specs.declared.drives.Drive.TheVariants.{Given, Held, Equal, Combined, Clocked}
-use Rattle.lx_emit.specs.declared.drives.Driver.{Driver}
-use Rattle.lx_emit.specs.declared.drives.Drivers.{Drivers}
+use Rattle.lx_emit.specs.declared.drives.Drive.TheVariants.{Input, Undriven, CombAssign, CombBlock, Sync}
 
 -- ---- the signal of a statement
 
@@ -32,74 +32,130 @@ abbrev pub first_inside : List Branch → List StmtId → Option StmtId
 first_inside [] rest = first_of [] rest
 first_inside (b ∷ bs) rest = first_of b.body rest
 
--- ---- statements with their signals
-
--- these statements, each with its signal
-abbrev pub AreDrivers : Design → List StmtId → List Driver → Type 0
-AreDrivers d [] [] = Unit {0}
-AreDrivers d [] (p ∷ ps) = ⊥
-AreDrivers d (i ∷ is) [] = ⊥
-AreDrivers d (i ∷ is) (p ∷ ps) = (p.stmt ≡ i) × IsTrue (is_for p.signal.0 (stmt d i.place)) × AreDrivers d is ps
-
--- those of each domain, from number k on
-abbrev pub AreDomainDrivers : Design → ℕ → List Domain → List (List Driver) → Type 0
-AreDomainDrivers d k [] [] = Unit {0}
-AreDomainDrivers d k [] (ps ∷ pss) = ⊥
-AreDomainDrivers d k (x ∷ xs) [] = ⊥
-AreDomainDrivers d k (x ∷ xs) (ps ∷ pss) = AreDrivers d (stmts_of k d.sync) ps × AreDomainDrivers d (k + 1) xs pss
-
--- the statements of a design, each with its signal
-pub record AreDriversOf (d : Design) (t : Drivers) : Type 0 where
-  pub comb : AreDrivers d d.comb t.comb
-  pub domains : AreDomainDrivers d 0 d.domains t.domains
-
--- some statement is for the signal
-abbrev pub is_driven : ℕ → List Driver → Bool
-is_driven x [] = false
-is_driven x (p ∷ ps) = nat_eq p.signal.0 x || is_driven x ps
-
--- the statements for the signal
-abbrev pub picked : ℕ → List Driver → List StmtId
-picked x [] = []
-picked x (p ∷ ps) = if nat_eq p.signal.0 x then p.stmt ∷ picked x ps else picked x ps
-
--- the first domain with a statement for the signal; k is the number of the first of these domains
-abbrev pub first_domain : ℕ → ℕ → List (List Driver) → Option ℕ
-first_domain x k [] = None
-first_domain x k (ps ∷ pss) = if is_driven x ps then Some k else first_domain x (k + 1) pss
-
--- a signal is the reset of one of these domains
-abbrev pub some_reset : ℕ → List Domain → Bool
-some_reset x [] = false
-some_reset x (a ∷ as_) = is_reset_name x (option_map signal_number a.reset) || some_reset x as_
-
 -- ---- how a net is driven
 
 -- what an answer means
 abbrev pub drive_of : Drive → signals.Drive
-drive_of Given = signals.Given
-drive_of Held = signals.Held
-drive_of (Equal value) = signals.Equal value
-drive_of (Combined body) = signals.Combined body
-drive_of (Clocked domain body) = signals.Clocked domain body
+drive_of Input = signals.Input
+drive_of Undriven = signals.Undriven
+drive_of (CombAssign value) = signals.CombAssign value
+drive_of (CombBlock body) = signals.CombBlock body
+drive_of (Sync domain body) = signals.Sync domain body
+
+-- that of a signal
+abbrev pub drive_at : List Drive → ℕ → signals.Drive
+drive_at drives x = drive_of (slice_index_or drives x Undriven)
 
 -- the expression, the statements and the domain of a drive are there
 abbrev pub IsThere : Design → signals.Drive → Type 0
-IsThere d signals.Given = Unit {0}
-IsThere d signals.Held = Unit {0}
-IsThere d (signals.Equal value) = value.place < length d.exprs
-IsThere d (signals.Combined body) = IsTrue (all_stmts_below (length d.stmts) body)
-IsThere d (signals.Clocked domain body) = (domain < length d.domains) × IsTrue (all_stmts_below (length d.stmts) body)
+IsThere d signals.Input = Unit {0}
+IsThere d signals.Undriven = Unit {0}
+IsThere d (signals.CombAssign value) = value.place < length d.exprs
+IsThere d (signals.CombBlock body) = IsTrue (all_stmts_below (length d.stmts) body)
+IsThere d (signals.Sync domain body) = (domain < length d.domains) × IsTrue (all_stmts_below (length d.stmts) body)
 
 -- its statements are for one signal each
 abbrev pub IsPlainDrive : Design → signals.Drive → Type 0
-IsPlainDrive d signals.Given = Unit {0}
-IsPlainDrive d signals.Held = Unit {0}
-IsPlainDrive d (signals.Equal value) = Unit {0}
-IsPlainDrive d (signals.Combined body) = ArePlain (block d body)
-IsPlainDrive d (signals.Clocked domain body) = ArePlain (block d body)
+IsPlainDrive d signals.Input = Unit {0}
+IsPlainDrive d signals.Undriven = Unit {0}
+IsPlainDrive d (signals.CombAssign value) = Unit {0}
+IsPlainDrive d (signals.CombBlock body) = ArePlain (block d body)
+IsPlainDrive d (signals.Sync domain body) = ArePlain (block d body)
 
 -- how the net of each signal is driven
 pub record AreDrives (d : Design) (drives : List Drive) : Type 0 where
   pub long : length drives ≡ length d.signals
   pub each : (k : ℕ) (r : Drive) → slice_get drives k ≡ Some r → drive_of r ≡ signals.drive d k
+
+-- ---- blocks that are filled statement by statement
+
+-- a statement more in a block of `always @(*)`, which is made where there is none
+abbrev pub with_comb : StmtId → signals.Drive → signals.Drive
+with_comb i (signals.CombBlock body) = signals.CombBlock (body ++ i ∷ [])
+with_comb i _ = signals.CombBlock (i ∷ [])
+
+-- the same in a block at the rise of a domain's clock
+abbrev pub with_clocked : ℕ → StmtId → signals.Drive → signals.Drive
+with_clocked k i (signals.Sync m body) = if nat_eq m k then signals.Sync m (body ++ i ∷ []) else signals.Sync k (i ∷ [])
+with_clocked k i _ = signals.Sync k (i ∷ [])
+
+-- in a block with this clock, where there is one
+abbrev pub with_stmt : Option ℕ → StmtId → signals.Drive → signals.Drive
+with_stmt None i r = with_comb i r
+with_stmt (Some k) i r = with_clocked k i r
+
+-- a block with this clock, where there is one
+abbrev pub block_of : Option ℕ → List StmtId → signals.Drive
+block_of None ids = signals.CombBlock ids
+block_of (Some k) ids = signals.Sync k ids
+
+-- statements drive by their block, and without statements the net is driven otherwise
+abbrev pub block_or : Option ℕ → List StmtId → signals.Drive → signals.Drive
+block_or clock [] other = other
+block_or clock (i ∷ is) other = block_of clock (i ∷ is)
+
+-- it is a block with this clock
+abbrev pub is_block : Option ℕ → signals.Drive → Bool
+is_block None (signals.CombBlock body) = true
+is_block (Some k) (signals.Sync m body) = nat_eq m k
+is_block _ _ = false
+
+abbrev pub HaveNoBlock : Option ℕ → List Drive → Type 0
+HaveNoBlock clock drives = (x : ℕ) → x < length drives → is_block clock (drive_at drives x) ≡ false
+
+-- each signal is driven by the statements of the list that assign it, where there are some
+pub record AreFilled (d : Design) (clock : Option ℕ) (ids : List StmtId) (old new : List Drive) : Type 0 where
+  pub long : length new ≡ length old
+  pub each : (x : ℕ) → x < length old → drive_at new x ≡ block_or clock (own d x ids) (drive_at old x)
+
+-- ---- all signals
+
+-- without statements
+abbrev pub idle_drive : Bool → signals.Drive
+idle_drive is_input = if is_input then signals.Input else signals.Undriven
+
+-- a port that nothing else gives
+abbrev pub is_input : Design → ℕ → Bool
+is_input d x = is_port d x && not (made (circuit_of d) x).given
+
+pub record AreIdle (d : Design) (n : ℕ) (drives : List Drive) : Type 0 where
+  pub long : length drives ≡ n
+  pub each : (x : ℕ) → x < n → drive_at drives x ≡ idle_drive (is_input d x)
+
+-- the first of these domains with statements for the signal; k is the number of the first of them
+abbrev pub clocked_or : Design → ℕ → ℕ → List Domain → signals.Drive → signals.Drive
+clocked_or d x k [] other = other
+clocked_or d x k (a ∷ as_) other = block_or (Some k) (own d x (stmts_of k d.sync)) (clocked_or d x (k + 1) as_ other)
+
+-- by the domains from number k on
+abbrev pub clocked_from : Design → ℕ → ℕ → signals.Drive
+clocked_from d k x = clocked_or d x k (drop k d.domains) (idle_drive (is_input d x))
+
+pub record AreClocked (d : Design) (k : ℕ) (drives : List Drive) : Type 0 where
+  pub long : length drives ≡ length d.signals
+  pub each : (x : ℕ) → x < length d.signals → drive_at drives x ≡ clocked_from d k x
+
+-- the right side of a block that is one unconditional whole assignment
+abbrev pub whole_of : Design → signals.Drive → Option ExprId
+whole_of d (signals.CombBlock body) = single d body
+whole_of d _ = None
+
+abbrev pub equal_or : Option ExprId → signals.Drive → signals.Drive
+equal_or None r = r
+equal_or (Some value) r = signals.CombAssign value
+
+abbrev pub closed : Design → signals.Drive → signals.Drive
+closed d r = equal_or (whole_of d r) r
+
+pub record AllAreThere (d : Design) (drives : List Drive) : Type 0 where
+  pub each : (x : ℕ) → x < length drives → IsThere d (drive_at drives x)
+
+pub record AreClosed (d : Design) (old new : List Drive) : Type 0 where
+  pub long : length new ≡ length old
+  pub each : (x : ℕ) → x < length old → drive_at new x ≡ closed d (drive_at old x)
+
+-- the same for the first n
+pub record AreClosedTo (d : Design) (n : ℕ) (old new : List Drive) : Type 0 where
+  pub long : length new ≡ length old
+  pub done : (x : ℕ) → x < n → drive_at new x ≡ closed d (drive_at old x)
+  pub left : (x : ℕ) → n ≤ x → drive_at new x ≡ drive_at old x

@@ -1,7 +1,12 @@
 pub mod Drives
 pub mod Lines
+pub mod Marks
+pub mod Memories
 pub mod Operands
+pub mod Plans
 pub mod Puts
 pub mod Resets
+pub mod Sheets
 pub mod Tables
 pub mod Whole
+pub mod Writes

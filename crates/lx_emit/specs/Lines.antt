@@ -1,5 +1,5 @@
 -- Lines of a module that are added to its lists.
-use Rattle.std.specs.Prelude.{◌≡◌, List, ◌++◌, length, map, IsTrue}
+use Rattle.std.specs.Prelude.{◌≡◌, List, ◌++◌, flat_map, length, map, IsTrue}
 use Rattle.lx_vtext.specs.Tree.{VAssign, VAlways}
 use Rattle.lx_vtree.specs.declared.nodes.VExpr.{VExpr}
 use Rattle.lx_vtree.specs.declared.nodes.VStmt.{VStmt}
@@ -9,6 +9,9 @@ use Rattle.lx_vtree.specs.Trees.{tree_at}
 use Rattle.lx_vtree.specs.Stmts.{stmt_at}
 use Rattle.lx_vtree.specs.Modules.{assign_of, always_of, are_assigns_placed, are_blocks_placed}
 use Rattle.lx_vtree.specs.Growth.{Grows}
+use Rattle.lx_emission.specs.Emission.{places_from}
+use Rattle.lx_emission.specs.Signals.{signal_always}
+use Rattle.lx_emit.specs.Plans.{Plan}
 use Rattle.lx_emit.specs.Puts.{GrowsBoth}
 
 -- assigns more, whose expressions hang in the arena
@@ -22,3 +25,7 @@ pub record PutAlways (e0 e1 : List VExpr) (s0 s1 : List VStmt) (before after : L
   pub grows : GrowsBoth e0 e1 s0 s1
   pub placed : IsTrue (are_blocks_placed (length s1) after)
   pub trees : map (always_of (stmt_at (tree_at e1) s1)) after ≡ map (always_of (stmt_at (tree_at e0) s0)) before ++ ts
+
+-- the blocks that drive signals' nets
+abbrev pub all_signals_in : Plan → List VAlways
+all_signals_in p = flat_map (signal_always p.design p.names) (places_from 0 p.design.signals)

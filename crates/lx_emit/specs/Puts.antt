@@ -4,6 +4,7 @@ use Rattle.lx_vtext.specs.Tree as tree
 use Rattle.lx_vtree.specs.declared.nodes.VExpr.{VExpr}
 use Rattle.lx_vtree.specs.declared.nodes.VStmt.{VStmt}
 use Rattle.lx_vtree.specs.declared.nodes.VTarget.{VTarget}
+use Rattle.lx_vtree.specs.Below.{Ref}
 use Rattle.lx_vtree.specs.Trees.{tree_at}
 use Rattle.lx_vtree.specs.Stmts.{StmtRef, plant_target, plant_block, plant_else, stmt_at, are_stmts_below, is_else_below, is_target_placed, StmtsPlaced}
 use Rattle.lx_vtree.specs.Growth.{Grows}
@@ -13,6 +14,11 @@ use Rattle.lx_fhdl.specs.Below.{StmtId}
 pub record IsTarget (t : VTarget) (u : tree.VTarget) : Type 0 where
   pub tree : (f : ℕ → tree.VExpr) → plant_target f t ≡ u
   pub placed : (n : ℕ) → IsTrue (is_target_placed n t)
+
+-- a word, or some of its bits, at the index that hangs at a place
+pub record IsWordTarget (t : VTarget) (index : Ref) (u : tree.VExpr → tree.VTarget) : Type 0 where
+  pub tree : (f : ℕ → tree.VExpr) → plant_target f t ≡ u (f index.place)
+  pub placed : (n : ℕ) → index.place < n → IsTrue (is_target_placed n t)
 
 -- both arenas grow, the trees of statements that hung there stay, and all their expressions are there
 pub record GrowsBoth (e0 e1 : List VExpr) (s0 s1 : List VStmt) : Type 0 where

@@ -1,19 +1,17 @@
 //! Always blocks (IEEE 1364-2005, "Procedural blocks").
 
-ghost use Rattle.std.specs.Prelude.{◌≡◌, [], ◌<◌, length, flat_map, IfOk, IsTrue, OnOk};
+ghost use Rattle.std.specs.Prelude.{[], ◌++◌, ◌<◌, length, IfOk, IsTrue, OnOk};
 ghost use Rattle.lx_vtree.specs.Stmts.{StmtsPlaced};
 ghost use Rattle.lx_vtree.specs.Modules.{are_blocks_placed};
-ghost use Rattle.lx_fhdl.specs.Lowered.{IsLowered};
-ghost use Rattle.lx_emission.specs.Emission.{places_from};
-ghost use Rattle.lx_emission.specs.Signals.{always_by, signal_always};
-ghost use Rattle.lx_emit.specs.Drives.{AreDrives, IsPlainDrive, IsThere, drive_of};
-ghost use Rattle.lx_emit.specs.Lines.{PutAlways};
-ghost use Rattle.lx_emit.specs.Tables.{IsSheet};
+ghost use Rattle.lx_emission.specs.Signals.{signal_always};
+ghost use Rattle.lx_emit.specs.Lines.{PutAlways, all_signals_in};
+ghost use Rattle.lx_emit.specs.Writes.{all_writes_in};
 
 use crate::blocks::{put_clocked, put_combined};
 use crate::drives::Drive;
 use crate::nets::clock_name;
-use crate::tables::Sheet;
+use crate::tables::{Sheet, drive_of};
+use crate::writes::put_memories;
 use lx_arena::Arena;
 use lx_fhdl::SigId;
 use lx_text::{List, NoMemory};
@@ -27,24 +25,20 @@ fn put_signal(
     stmts: &mut Arena<VStmt>,
     sheet: &Sheet,
     blocks: &mut List<Always>,
-    drive: &Drive,
     x: SigId,
 ) -> Result<(), NoMemory>
-    requires sheet { IsSheet sheet.now }
     requires stmts { StmtsPlaced (length exprs.old) stmts.old }
     requires blocks { IsTrue (are_blocks_placed (length stmts.old) blocks.old) }
-    requires signal { x.0 < length sheet.now.design.now.signals }
-    requires there { IsThere sheet.now.design.now (drive_of drive.now) }
-    requires plain { IsPlainDrive sheet.now.design.now (drive_of drive.now) }
-    ensures { OnOk result (PutAlways exprs.old exprs.new stmts.old stmts.new blocks.old blocks.new (always_by sheet.now.design.now sheet.now.names.now x.0 (drive_of drive.now))) }
+    requires signal { x.0 < length sheet.now.design.signals }
+    ensures { OnOk result (PutAlways exprs.old exprs.new stmts.old stmts.new blocks.old blocks.new (signal_always sheet.now.design sheet.now.names x.0)) }
 {
-    match drive {
-        Drive::Given | Drive::Held | Drive::Equal(_) => Ok(()),
-        Drive::Combined(ids) => {
+    match drive_of(sheet, x) {
+        Drive::Input | Drive::Undriven | Drive::CombAssign(_) => Ok(()),
+        Drive::CombBlock(ids) => {
             let body = put_combined(alloc, exprs, stmts, sheet, x, ids.as_slice())?;
             blocks.push(Always { clock: None, body })
         }
-        Drive::Clocked { domain, body: ids } => {
+        Drive::Sync { domain, body: ids } => {
             let clock = clock_name(alloc, sheet.design.domains.at(*domain))?;
             let body = put_clocked(alloc, exprs, stmts, sheet, x, *domain, ids.as_slice())?;
             let clock = Some(clock);
@@ -53,23 +47,37 @@ fn put_signal(
     }
 }
 
-/// The always blocks of a module: those of the signals with statements, in the order of the signals.
+// Adds the blocks that drive signals' nets, in the order of the signals.
+fn put_signals(
+    alloc: Global,
+    exprs: &mut Arena<VExpr>,
+    stmts: &mut Arena<VStmt>,
+    sheet: &Sheet,
+    blocks: &mut List<Always>,
+) -> Result<(), NoMemory>
+    requires stmts { StmtsPlaced (length exprs.old) stmts.old }
+    requires blocks { IsTrue (are_blocks_placed (length stmts.old) blocks.old) }
+    ensures { OnOk result (PutAlways exprs.old exprs.new stmts.old stmts.new blocks.old blocks.new (all_signals_in sheet.now)) }
+{
+    for x in 0..sheet.design.signals.len() {
+        put_signal(alloc, exprs, stmts, sheet, blocks, SigId(x))?;
+    }
+    Ok(())
+}
+
+/// The always blocks of a module: those of the signals with statements, in the order of the signals, and then those of
+/// the memories with writers.
 pub fn always(
     alloc: Global,
     exprs: &mut Arena<VExpr>,
     stmts: &mut Arena<VStmt>,
     sheet: &Sheet,
-    drives: &[Drive],
 ) -> Result<List<Always>, NoMemory>
-    requires sheet { IsSheet sheet.now }
-    requires lowered { IsLowered sheet.now.design.now }
-    requires drives { AreDrives sheet.now.design.now drives.now }
-    requires placed { StmtsPlaced (length exprs.old) stmts.old }
-    ensures { IfOk result (λ list. PutAlways exprs.old exprs.new stmts.old stmts.new [] list (flat_map (signal_always sheet.now.design.now sheet.now.names.now) (places_from 0 sheet.now.design.now.signals))) }
+    requires { StmtsPlaced (length exprs.old) stmts.old }
+    ensures { IfOk result (λ list. PutAlways exprs.old exprs.new stmts.old stmts.new [] list (all_signals_in sheet.now ++ all_writes_in sheet.now)) }
 {
     let mut blocks = List::new(alloc);
-    for (x, drive) in drives.iter().enumerate() {
-        put_signal(alloc, exprs, stmts, sheet, &mut blocks, drive, SigId(x))?;
-    }
+    put_signals(alloc, exprs, stmts, sheet, &mut blocks)?;
+    put_memories(alloc, exprs, stmts, sheet, &mut blocks)?;
     Ok(blocks)
 }

@@ -1,18 +1,16 @@
 //! Assigns (IEEE 1364-2005, "Continuous assignments").
 
-ghost use Rattle.std.specs.Prelude.{◌≡◌, [], ◌++◌, ◌<◌, length, flat_map, IfOk, IsTrue, OnOk};
+ghost use Rattle.std.specs.Prelude.{[], ◌++◌, ◌<◌, length, IfOk, IsTrue, OnOk};
 ghost use Rattle.lx_vtree.specs.Modules.{are_assigns_placed};
-ghost use Rattle.lx_fhdl.specs.Lowered.{IsLowered};
-ghost use Rattle.lx_emission.specs.Emission.{node_assign, places_from};
-ghost use Rattle.lx_emission.specs.Signals.{assign_by, signal_assign};
-ghost use Rattle.lx_emit.specs.Drives.{AreDrives, IsThere, drive_of};
+ghost use Rattle.lx_emission.specs.Emission.{node_assign};
+ghost use Rattle.lx_emission.specs.Signals.{signal_assign};
 ghost use Rattle.lx_emit.specs.Lines.{PutAssigns};
-ghost use Rattle.lx_emit.specs.Tables.{IsSheet};
+ghost use Rattle.lx_emit.specs.Plans.{assigns_in, nodes_in};
 
 use crate::blocks::put_reset;
 use crate::drives::Drive;
 use crate::exprs::{node_name, put_node, put_operand};
-use crate::tables::{Sheet, has_net, net_name};
+use crate::tables::{Sheet, drive_of, has_net, net_name, number_at};
 use lx_arena::{Arena, Id};
 use lx_fhdl::{ExprId, SigId};
 use lx_text::{List, NoMemory};
@@ -28,16 +26,14 @@ fn put_node_assign(
     assigns: &mut List<Assign>,
     id: ExprId,
 ) -> Result<(), NoMemory>
-    requires sheet { IsSheet sheet.now }
-    requires lowered { IsLowered sheet.now.design.now }
     requires placed { IsTrue (are_assigns_placed (length exprs.old) assigns.old) }
-    requires place { id.place < length sheet.now.design.now.exprs }
-    ensures { OnOk result (PutAssigns exprs.old exprs.new assigns.old assigns.new (node_assign sheet.now.design.now sheet.now.names.now id.place)) }
+    requires place { id.place < length sheet.now.design.exprs }
+    ensures { OnOk result (PutAssigns exprs.old exprs.new assigns.old assigns.new (node_assign sheet.now.design sheet.now.names id.place)) }
 {
     if !has_net(sheet.design.exprs.get(id)) {
         return Ok(());
     }
-    let name = node_name(alloc, sheet.numbers[id.place])?;
+    let name = node_name(alloc, number_at(sheet, id))?;
     let value = put_node(alloc, exprs, sheet, id)?;
     assigns.push(Assign { name, value })
 }
@@ -48,23 +44,20 @@ fn put_signal_assign(
     exprs: &mut Arena<VExpr>,
     sheet: &Sheet,
     assigns: &mut List<Assign>,
-    drive: &Drive,
     x: SigId,
 ) -> Result<(), NoMemory>
-    requires sheet { IsSheet sheet.now }
     requires placed { IsTrue (are_assigns_placed (length exprs.old) assigns.old) }
-    requires signal { x.0 < length sheet.now.design.now.signals }
-    requires there { IsThere sheet.now.design.now (drive_of drive.now) }
-    ensures { OnOk result (PutAssigns exprs.old exprs.new assigns.old assigns.new (assign_by sheet.now.design.now sheet.now.names.now x.0 (drive_of drive.now))) }
+    requires signal { x.0 < length sheet.now.design.signals }
+    ensures { OnOk result (PutAssigns exprs.old exprs.new assigns.old assigns.new (signal_assign sheet.now.design sheet.now.names x.0)) }
 {
-    match drive {
-        Drive::Given | Drive::Combined(_) | Drive::Clocked { .. } => Ok(()),
-        Drive::Held => {
+    match drive_of(sheet, x) {
+        Drive::Input | Drive::CombBlock(_) | Drive::Sync { .. } => Ok(()),
+        Drive::Undriven => {
             let name = net_name(alloc, sheet, x)?;
             let value = put_reset(exprs, sheet, x)?;
             assigns.push(Assign { name, value })
         }
-        Drive::Equal(of) => {
+        Drive::CombAssign(of) => {
             let name = net_name(alloc, sheet, x)?;
             let value = put_operand(alloc, exprs, sheet, *of)?;
             assigns.push(Assign { name, value })
@@ -79,10 +72,8 @@ fn put_nodes(
     sheet: &Sheet,
     assigns: &mut List<Assign>,
 ) -> Result<(), NoMemory>
-    requires sheet { IsSheet sheet.now }
-    requires lowered { IsLowered sheet.now.design.now }
-    requires placed { IsTrue (are_assigns_placed (length exprs.old) assigns.old) }
-    ensures { OnOk result (PutAssigns exprs.old exprs.new assigns.old assigns.new (flat_map (node_assign sheet.now.design.now sheet.now.names.now) (places_from 0 sheet.now.design.now.exprs))) }
+    requires { IsTrue (are_assigns_placed (length exprs.old) assigns.old) }
+    ensures { OnOk result (PutAssigns exprs.old exprs.new assigns.old assigns.new (nodes_in sheet.now)) }
 {
     for place in 0..sheet.design.exprs.len() {
         let id = Id {
@@ -99,16 +90,13 @@ fn put_signals(
     alloc: Global,
     exprs: &mut Arena<VExpr>,
     sheet: &Sheet,
-    drives: &[Drive],
     assigns: &mut List<Assign>,
 ) -> Result<(), NoMemory>
-    requires sheet { IsSheet sheet.now }
-    requires drives { AreDrives sheet.now.design.now drives.now }
-    requires placed { IsTrue (are_assigns_placed (length exprs.old) assigns.old) }
-    ensures { OnOk result (PutAssigns exprs.old exprs.new assigns.old assigns.new (flat_map (signal_assign sheet.now.design.now sheet.now.names.now) (places_from 0 sheet.now.design.now.signals))) }
+    requires { IsTrue (are_assigns_placed (length exprs.old) assigns.old) }
+    ensures { OnOk result (PutAssigns exprs.old exprs.new assigns.old assigns.new (assigns_in sheet.now)) }
 {
-    for (x, drive) in drives.iter().enumerate() {
-        put_signal_assign(alloc, exprs, sheet, assigns, drive, SigId(x))?;
+    for x in 0..sheet.design.signals.len() {
+        put_signal_assign(alloc, exprs, sheet, assigns, SigId(x))?;
     }
     Ok(())
 }
@@ -118,15 +106,11 @@ pub fn assigns(
     alloc: Global,
     exprs: &mut Arena<VExpr>,
     sheet: &Sheet,
-    drives: &[Drive],
 ) -> Result<List<Assign>, NoMemory>
-    requires sheet { IsSheet sheet.now }
-    requires lowered { IsLowered sheet.now.design.now }
-    requires drives { AreDrives sheet.now.design.now drives.now }
-    ensures { IfOk result (λ list. PutAssigns exprs.old exprs.new [] list (flat_map (node_assign sheet.now.design.now sheet.now.names.now) (places_from 0 sheet.now.design.now.exprs) ++ flat_map (signal_assign sheet.now.design.now sheet.now.names.now) (places_from 0 sheet.now.design.now.signals))) }
+    ensures { IfOk result (λ list. PutAssigns exprs.old exprs.new [] list (nodes_in sheet.now ++ assigns_in sheet.now)) }
 {
     let mut assigns = List::new(alloc);
     put_nodes(alloc, exprs, sheet, &mut assigns)?;
-    put_signals(alloc, exprs, sheet, drives, &mut assigns)?;
+    put_signals(alloc, exprs, sheet, &mut assigns)?;
     Ok(assigns)
 }

@@ -1,18 +1,18 @@
 //! The blocks that drive signals (IEEE 1364-2005, "Structured procedures").
 
-ghost use Rattle.std.specs.Prelude.{◌≡◌, ◌<◌, ◌≤◌, true, false, length, slice_get, IfOk, IsTrue, IfSome};
+ghost use Rattle.std.specs.Prelude.{◌≡◌, ◌<◌, true, false, length, IfOk, IsTrue, IfSome};
 ghost use Rattle.lx_vtext.specs.Tree as tree;
 ghost use Rattle.lx_vtree.specs.Modules as modules;
 ghost use Rattle.lx_vtree.specs.Stmts.{StmtsPlaced};
 ghost use Rattle.lx_fhdl.specs.Below.{all_stmts_below};
 ghost use Rattle.lx_fhdl.specs.Designs as designs;
 ghost use Rattle.lx_fhdl.specs.Lowered.{ArePlain};
-ghost use Rattle.lx_emission.specs.Naming.{net};
 ghost use Rattle.lx_emission.specs.Signals as signals;
-ghost use Rattle.lx_emission.specs.Signals.{reset_text, reset_block, domain_reset, combined_body, clocked_body};
+ghost use Rattle.lx_emission.specs.Signals.{comb_body, sync_body};
+ghost use Rattle.lx_emit.specs.Plans.{reset_assign_in, reset_block_in, reset_in};
 ghost use Rattle.lx_emit.specs.Puts.{PutBlock, PutStmt};
 ghost use Rattle.lx_emit.specs.Resets.{block_by, reset_stmt};
-ghost use Rattle.lx_emit.specs.Tables.{IsSheet, Put};
+ghost use Rattle.lx_emit.specs.Tables.{Put};
 
 use crate::exprs::{constant, put_literal, put_net};
 use crate::stmts::put_stmts;
@@ -25,10 +25,9 @@ use std::alloc::Global;
 
 /// The reset value of a signal, as a literal of its shape.
 pub fn reset_literal(sheet: &Sheet, x: SigId) -> Literal
-    requires sheet { IsSheet sheet.now }
-    requires signal { x.0 < length sheet.now.design.now.signals }
-    ensures text { tree.Literal result.bits result.signed result.value ≡ reset_text sheet.now.design.now x.0 }
-    ensures value { modules.literal_of result ≡ signals.literal_of (signals.shape_of_signal sheet.now.design.now x.0) (signals.reset_of_signal sheet.now.design.now x.0) }
+    requires { x.0 < length sheet.now.design.signals }
+    ensures text { tree.Literal result.bits result.signed result.value ≡ reset_in sheet.now x.0 }
+    ensures value { modules.literal_of result ≡ signals.literal_of (signals.shape_of_signal sheet.now.design x.0) (signals.reset_of_signal sheet.now.design x.0) }
 {
     let signal = sheet.design.signals.at(x.0);
     constant(signal.reset, signal.shape.bits as u32, signal.shape.signed)
@@ -36,9 +35,8 @@ pub fn reset_literal(sheet: &Sheet, x: SigId) -> Literal
 
 /// Adds the reset value of a signal.
 pub fn put_reset(exprs: &mut Arena<VExpr>, sheet: &Sheet, x: SigId) -> Result<VExprId, NoMemory>
-    requires sheet { IsSheet sheet.now }
-    requires signal { x.0 < length sheet.now.design.now.signals }
-    ensures { IfOk result (λ i. Put exprs.old exprs.new i.place (reset_text sheet.now.design.now x.0)) }
+    requires { x.0 < length sheet.now.design.signals }
+    ensures { IfOk result (λ i. Put exprs.old exprs.new i.place (reset_in sheet.now x.0)) }
 {
     let literal = reset_literal(sheet, x);
     put_literal(exprs, literal)
@@ -51,19 +49,18 @@ fn put_reset_assign(
     stmts: &mut Arena<VStmt>,
     sheet: &Sheet,
     x: SigId,
-    at_once: bool,
+    blocking: bool,
 ) -> Result<VStmtId, NoMemory>
-    requires sheet { IsSheet sheet.now }
     requires placed { StmtsPlaced (length exprs.old) stmts.old }
-    requires signal { x.0 < length sheet.now.design.now.signals }
-    ensures { IfOk result (λ i. PutStmt exprs.old exprs.new stmts.old stmts.new i.place (tree.Assign (tree.Whole (net sheet.now.names.now x.0)) at_once (reset_text sheet.now.design.now x.0))) }
+    requires signal { x.0 < length sheet.now.design.signals }
+    ensures { IfOk result (λ i. PutStmt exprs.old exprs.new stmts.old stmts.new i.place (reset_assign_in sheet.now blocking x.0)) }
 {
     stmts.lower();
     let target = VTarget::Whole(net_name(alloc, sheet, x)?);
     let value = put_reset(exprs, sheet, x)?;
     let node = VStmt::Assign {
         target,
-        at_once,
+        blocking,
         value,
     };
     add_stmt(exprs, stmts, node)
@@ -78,11 +75,10 @@ fn put_reset_stmt(
     x: SigId,
     reset: SigId,
 ) -> Result<VStmtId, NoMemory>
-    requires sheet { IsSheet sheet.now }
     requires placed { StmtsPlaced (length exprs.old) stmts.old }
-    requires signal { x.0 < length sheet.now.design.now.signals }
-    requires reset { reset.0 < length sheet.now.design.now.signals }
-    ensures { IfOk result (λ i. PutStmt exprs.old exprs.new stmts.old stmts.new i.place (reset_stmt sheet.now.design.now sheet.now.names.now x.0 reset)) }
+    requires signal { x.0 < length sheet.now.design.signals }
+    requires reset { reset.0 < length sheet.now.design.signals }
+    ensures { IfOk result (λ i. PutStmt exprs.old exprs.new stmts.old stmts.new i.place (reset_stmt sheet.now.design sheet.now.names x.0 reset)) }
 {
     let assign = put_reset_assign(alloc, exprs, stmts, sheet, x, false)?;
     let so = List::of_one(alloc, assign)?;
@@ -102,12 +98,11 @@ pub fn put_combined(
     x: SigId,
     body: &[StmtId],
 ) -> Result<List<VStmtId>, NoMemory>
-    requires sheet { IsSheet sheet.now }
     requires placed { StmtsPlaced (length exprs.old) stmts.old }
-    requires signal { x.0 < length sheet.now.design.now.signals }
-    requires below { IsTrue (all_stmts_below (length sheet.now.design.now.stmts) body.now) }
-    requires plain { ArePlain (designs.block sheet.now.design.now body.now) }
-    ensures { IfOk result (λ list. PutBlock exprs.old exprs.new stmts.old stmts.new list (combined_body sheet.now.design.now sheet.now.names.now x.0 body.now)) }
+    requires signal { x.0 < length sheet.now.design.signals }
+    requires below { IsTrue (all_stmts_below (length sheet.now.design.stmts) body.now) }
+    requires plain { ArePlain (designs.block sheet.now.design body.now) }
+    ensures { IfOk result (λ list. PutBlock exprs.old exprs.new stmts.old stmts.new list (comb_body sheet.now.design sheet.now.names x.0 body.now)) }
 {
     let bound = sheet.design.stmts.len();
     let first = put_reset_assign(alloc, exprs, stmts, sheet, x, true)?;
@@ -117,11 +112,10 @@ pub fn put_combined(
 
 // The reset of a domain, where the signal takes part in it.
 fn reset_of(sheet: &Sheet, x: SigId, domain: usize) -> Option<SigId>
-    requires sheet { IsSheet sheet.now }
-    requires signal { x.0 < length sheet.now.design.now.signals }
-    requires domain { domain < length sheet.now.design.now.domains }
-    ensures block { block_by sheet.now.design.now sheet.now.names.now x.0 result ≡ reset_block sheet.now.design.now sheet.now.names.now x.0 (domain_reset (slice_get sheet.now.design.now.domains domain)) }
-    ensures there { IfSome result (λ r. r.0 < length sheet.now.design.now.signals) }
+    requires signal { x.0 < length sheet.now.design.signals }
+    requires domain { domain < length sheet.now.design.domains }
+    ensures block { block_by sheet.now.design sheet.now.names x.0 result ≡ reset_block_in sheet.now x.0 domain }
+    ensures there { IfSome result (λ r. r.0 < length sheet.now.design.signals) }
 {
     if sheet.design.signals.at(x.0).reset_less {
         None
@@ -140,13 +134,12 @@ pub fn put_clocked(
     domain: usize,
     body: &[StmtId],
 ) -> Result<List<VStmtId>, NoMemory>
-    requires sheet { IsSheet sheet.now }
     requires placed { StmtsPlaced (length exprs.old) stmts.old }
-    requires signal { x.0 < length sheet.now.design.now.signals }
-    requires domain { domain < length sheet.now.design.now.domains }
-    requires below { IsTrue (all_stmts_below (length sheet.now.design.now.stmts) body.now) }
-    requires plain { ArePlain (designs.block sheet.now.design.now body.now) }
-    ensures { IfOk result (λ list. PutBlock exprs.old exprs.new stmts.old stmts.new list (clocked_body sheet.now.design.now sheet.now.names.now x.0 domain body.now)) }
+    requires signal { x.0 < length sheet.now.design.signals }
+    requires domain { domain < length sheet.now.design.domains }
+    requires below { IsTrue (all_stmts_below (length sheet.now.design.stmts) body.now) }
+    requires plain { ArePlain (designs.block sheet.now.design body.now) }
+    ensures { IfOk result (λ list. PutBlock exprs.old exprs.new stmts.old stmts.new list (sync_body sheet.now.design sheet.now.names x.0 domain body.now)) }
 {
     let bound = sheet.design.stmts.len();
     let empty = List::new(alloc);

@@ -1,14 +1,13 @@
 //! Declarations of nets (IEEE 1364-2005, "Net and variable declarations").
 
-ghost use Rattle.std.specs.Prelude.{◌≡◌, ◌++◌, ◌<◌, length, map, flat_map, IfOk, OnOk};
+ghost use Rattle.std.specs.Prelude.{◌≡◌, ◌++◌, ◌<◌, length, map, IfOk, OnOk};
 ghost use Rattle.lx_vtree.specs.Modules.{decl_of};
-ghost use Rattle.lx_emission.specs.Emission.{decls_of, inner_decl, node_decl, places_from};
-ghost use Rattle.lx_emit.specs.Drives.{AreDrives};
-ghost use Rattle.lx_emit.specs.Tables.{IsSheet};
+ghost use Rattle.lx_emission.specs.Emission.{decls_of, inner_decl, node_decl};
+ghost use Rattle.lx_emit.specs.Plans.{inner_decls_in, node_decls_in};
 
-use crate::drives::{Drive, is_port};
+use crate::memories::put_decls;
 use crate::nets::{node_wire, signal_net};
-use crate::tables::{Sheet, has_net};
+use crate::tables::{Sheet, has_net, is_port};
 use lx_arena::Id;
 use lx_fhdl::{ExprId, SigId};
 use lx_text::{List, NoMemory};
@@ -21,19 +20,16 @@ use std::marker::PhantomData;
 fn put_signal(
     alloc: Global,
     sheet: &Sheet,
-    drives: &[Drive],
     decls: &mut List<Decl>,
     x: SigId,
 ) -> Result<(), NoMemory>
-    requires sheet { IsSheet sheet.now }
-    requires drives { AreDrives sheet.now.design.now drives.now }
-    requires signal { x.0 < length sheet.now.design.now.signals }
-    ensures { OnOk result (map decl_of decls.new ≡ map decl_of decls.old ++ inner_decl sheet.now.design.now sheet.now.names.now x.0) }
+    requires { x.0 < length sheet.now.design.signals }
+    ensures { OnOk result (map decl_of decls.new ≡ map decl_of decls.old ++ inner_decl sheet.now.design sheet.now.names x.0) }
 {
-    if is_port(sheet.design, x) {
+    if is_port(sheet, x) {
         return Ok(());
     }
-    let net = signal_net(alloc, sheet, drives, x)?;
+    let net = signal_net(alloc, sheet, x)?;
     decls.push(Decl::Net(net))
 }
 
@@ -45,9 +41,8 @@ fn put_node(
     decls: &mut List<Decl>,
     id: ExprId,
 ) -> Result<(), NoMemory>
-    requires sheet { IsSheet sheet.now }
-    requires place { id.place < length sheet.now.design.now.exprs }
-    ensures { OnOk result (map decl_of decls.new ≡ map decl_of decls.old ++ node_decl sheet.now.design.now sheet.now.names.now id.place) }
+    requires { id.place < length sheet.now.design.exprs }
+    ensures { OnOk result (map decl_of decls.new ≡ map decl_of decls.old ++ node_decl sheet.now.design sheet.now.names id.place) }
 {
     if !has_net(sheet.design.exprs.get(id)) {
         return Ok(());
@@ -58,18 +53,11 @@ fn put_node(
 
 // Adds the nets of all signals that are no ports.
 #[tactic(auto, using(crate::proofs::Lines::pieces_next, crate::proofs::Lines::pieces_end))]
-fn put_signals(
-    alloc: Global,
-    sheet: &Sheet,
-    drives: &[Drive],
-    decls: &mut List<Decl>,
-) -> Result<(), NoMemory>
-    requires sheet { IsSheet sheet.now }
-    requires drives { AreDrives sheet.now.design.now drives.now }
-    ensures { OnOk result (map decl_of decls.new ≡ map decl_of decls.old ++ flat_map (inner_decl sheet.now.design.now sheet.now.names.now) (places_from 0 sheet.now.design.now.signals)) }
+fn put_signals(alloc: Global, sheet: &Sheet, decls: &mut List<Decl>) -> Result<(), NoMemory>
+    ensures { OnOk result (map decl_of decls.new ≡ map decl_of decls.old ++ inner_decls_in sheet.now) }
 {
     for x in 0..sheet.design.signals.len() {
-        put_signal(alloc, sheet, drives, decls, SigId(x))?;
+        put_signal(alloc, sheet, decls, SigId(x))?;
     }
     Ok(())
 }
@@ -77,8 +65,7 @@ fn put_signals(
 // Adds the nets of all operators and slices.
 #[tactic(auto, using(crate::proofs::Lines::pieces_next, crate::proofs::Lines::pieces_end))]
 fn put_nodes(alloc: Global, sheet: &Sheet, decls: &mut List<Decl>) -> Result<(), NoMemory>
-    requires { IsSheet sheet.now }
-    ensures { OnOk result (map decl_of decls.new ≡ map decl_of decls.old ++ flat_map (node_decl sheet.now.design.now sheet.now.names.now) (places_from 0 sheet.now.design.now.exprs)) }
+    ensures { OnOk result (map decl_of decls.new ≡ map decl_of decls.old ++ node_decls_in sheet.now) }
 {
     for place in 0..sheet.design.exprs.len() {
         let id = Id {
@@ -90,15 +77,14 @@ fn put_nodes(alloc: Global, sheet: &Sheet, decls: &mut List<Decl>) -> Result<(),
     Ok(())
 }
 
-/// The declarations of a module: the nets of the signals that are no ports, and then those of operators and slices.
+/// The declarations of a module: the nets of the signals that are no ports, then the memories and the nets of nodes.
 #[tactic(auto, unfolding(lx_emission::specs::Emission::decls_of))]
-pub fn decls(alloc: Global, sheet: &Sheet, drives: &[Drive]) -> Result<List<Decl>, NoMemory>
-    requires sheet { IsSheet sheet.now }
-    requires drives { AreDrives sheet.now.design.now drives.now }
-    ensures { IfOk result (λ list. map decl_of list ≡ decls_of sheet.now.design.now sheet.now.names.now) }
+pub fn decls(alloc: Global, sheet: &Sheet) -> Result<List<Decl>, NoMemory>
+    ensures { IfOk result (λ list. map decl_of list ≡ decls_of sheet.now.design sheet.now.names) }
 {
     let mut decls = List::new(alloc);
-    put_signals(alloc, sheet, drives, &mut decls)?;
+    put_signals(alloc, sheet, &mut decls)?;
+    put_decls(alloc, sheet, &mut decls)?;
     put_nodes(alloc, sheet, &mut decls)?;
     Ok(decls)
 }

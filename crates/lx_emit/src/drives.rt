@@ -1,17 +1,16 @@
 //! What drives the net of each signal of a lowered design.
 
-ghost use Rattle.std.specs.Prelude.{◌≡◌, ℕ, ◌<◌, ◌++◌, length, map, nat_eq, slice_get, Some, IsSome, IsTrue, IfOk, OnOk};
-ghost use Rattle.lx_circuit.specs.Circuit as circuit;
-ghost use Rattle.lx_circuit.specs.Statements.{drives};
+ghost use Rattle.std.specs.Prelude.{◌≡◌, ◌<◌, ◌++◌, ◌&&◌, length, not, slice_get, Some, IsSome, IsTrue, IfOk, OnOk};
 ghost use Rattle.lx_fhdl.specs.Below.{all_stmts_below};
-ghost use Rattle.lx_fhdl.specs.Designs.{block, signal_number, stmt, stmts_of, target};
+ghost use Rattle.lx_fhdl.specs.Designs.{block, stmt, stmts_of, target};
 ghost use Rattle.lx_fhdl.specs.Keeping.{Keeps};
 ghost use Rattle.lx_fhdl.specs.Lowered.{ArePlain, IsLowered, IsPlain, is_for, is_plain_target};
-ghost use Rattle.lx_emission.specs.Emission.{is_port};
-ghost use Rattle.lx_emission.specs.Signals.{combined, drive, is_whole, own, single, whole_value};
-ghost use Rattle.lx_emit.specs.Drives.{AreDomainDrivers, AreDrivers, AreDriversOf, AreDrives, IsPlainTarget, IsThere, drive_of, first_domain, first_inside, is_driven, picked, some_reset};
+ghost use Rattle.lx_emission.specs.Emits.{MemoriesFit};
+ghost use Rattle.lx_emission.specs.Signals.{is_whole, single, whole_value};
+ghost use Rattle.lx_emit.specs.Drives.{AllAreThere, AreClocked, AreClosed, AreDrives, AreFilled, AreIdle, HaveNoBlock, IsPlainTarget, IsThere, closed, drive_of, first_inside, idle_drive, whole_of, with_clocked, with_comb, with_stmt};
+ghost use Rattle.lx_emit.specs.Marks.{AreMarks};
 
-use lx_fhdl::{Branch, Design, Domain, ExprId, SigId, Stmt, StmtId, Target, TargetId};
+use lx_fhdl::{Branch, Design, ExprId, SigId, Signal, Stmt, StmtId, Target, TargetId};
 use lx_text::{List, NoMemory};
 use std::alloc::Global;
 
@@ -19,37 +18,24 @@ use std::alloc::Global;
 #[derive(Drop)]
 pub enum Drive {
     /// An input.
-    Given,
+    Input,
     /// An `assign` of the reset value.
-    Held,
+    Undriven,
     /// An `assign` of an expression.
-    Equal(ExprId),
+    CombAssign(ExprId),
     /// A block of `always @(*)`.
-    Combined(List<StmtId>),
+    CombBlock(List<StmtId>),
     /// A block at the rise of a domain's clock.
-    Clocked { domain: usize, body: List<StmtId> },
-}
-
-/// A statement, and the one signal that it assigns.
-#[derive(Clone, Copy)]
-pub struct Driver {
-    pub stmt: StmtId,
-    pub signal: SigId,
-}
-
-/// The statements of a lowered design that stand in no other, each with its signal.
-#[derive(Drop)]
-pub struct Drivers {
-    pub comb: List<Driver>,
-    /// Those of each domain, in the order of the domains.
-    pub domains: List<List<Driver>>,
+    Sync { domain: usize, body: List<StmtId> },
 }
 
 /// The signal that a plain target changes.
 fn signal_of_target(design: &Design, id: TargetId) -> SigId
     requires place { id.place < length design.now.targets }
+    requires keeps { Keeps design.now }
     requires plain { IsPlainTarget (target design.now id.place) }
-    ensures { IsTrue (is_plain_target result.0 (target design.now id.place)) }
+    ensures alone { IsTrue (is_plain_target result.0 (target design.now id.place)) }
+    ensures there { result.0 < length design.now.signals }
 {
     match design.targets.get(id) {
         Target::Whole(signal) => *signal,
@@ -76,7 +62,7 @@ pub fn signal_of(design: &Design, id: StmtId) -> SigId
     requires keeps { Keeps design.now }
     requires plain { IsPlain (stmt design.now id.place) }
     ensures alone { IsTrue (is_for result.0 (stmt design.now id.place)) }
-    ensures drives { (y : ℕ) → drives y (stmt design.now id.place) ≡ nat_eq result.0 y }
+    ensures there { result.0 < length design.now.signals }
 {
     match design.stmts.get(id) {
         Stmt::Assign { target, .. } => signal_of_target(design, *target),
@@ -85,21 +71,6 @@ pub fn signal_of(design: &Design, id: StmtId) -> SigId
         }
         Stmt::Case { .. } => unreachable!(),
     }
-}
-
-/// These statements, each with its signal.
-pub fn drivers_of(alloc: Global, design: &Design, ids: &[StmtId]) -> Result<List<Driver>, NoMemory>
-    requires keeps { Keeps design.now }
-    requires there { IsTrue (all_stmts_below (length design.now.stmts) ids.now) }
-    requires plain { ArePlain (block design.now ids.now) }
-    ensures { IfOk result (λ drivers. AreDrivers design.now ids.now drivers) }
-{
-    let mut drivers = List::new(alloc);
-    for id in ids {
-        let signal = signal_of(design, *id);
-        drivers.push(Driver { stmt: *id, signal })?;
-    }
-    Ok(drivers)
 }
 
 /// Adds places of statements to a list.
@@ -123,91 +94,6 @@ pub fn domain_stmts(alloc: Global, design: &Design, k: usize) -> Result<List<Stm
         }
     }
     Ok(list)
-}
-
-/// The statements of each domain, each with its signal.
-fn domain_drivers(alloc: Global, design: &Design) -> Result<List<List<Driver>>, NoMemory>
-    requires keeps { Keeps design.now }
-    requires lowered { IsLowered design.now }
-    ensures { IfOk result (λ domains. AreDomainDrivers design.now 0 design.now.domains domains) }
-{
-    let mut domains = List::new(alloc);
-    for k in 0..design.domains.len() {
-        let stmts = domain_stmts(alloc, design, k)?;
-        let drivers = drivers_of(alloc, design, stmts.as_slice())?;
-        domains.push(drivers)?;
-    }
-    Ok(domains)
-}
-
-/// Whether a signal is one of these.
-fn is_among(signals: &[SigId], x: SigId) -> bool
-    ensures { result ≡ circuit.is_among x.0 (map signal_number signals.now) }
-{
-    for signal in signals {
-        if signal.0 == x.0 {
-            return true;
-        }
-    }
-    false
-}
-
-/// Whether a signal is the reset of one of these domains.
-fn some_reset(domains: &[Domain], x: SigId) -> bool
-    ensures { result ≡ some_reset x.0 domains.now }
-{
-    for domain in domains {
-        if let Some(reset) = domain.reset
-            && reset.0 == x.0
-        {
-            return true;
-        }
-    }
-    false
-}
-
-/// Whether a signal is a port, or a domain's reset.
-pub fn is_port(design: &Design, x: SigId) -> bool
-    ensures { result ≡ is_port design.now x.0 }
-{
-    is_among(design.ios.as_slice(), x) || some_reset(design.domains.as_slice(), x)
-}
-
-/// Whether some of these statements are for a signal.
-fn is_driven(drivers: &[Driver], x: SigId) -> bool
-    ensures { result ≡ is_driven x.0 drivers.now }
-{
-    for driver in drivers {
-        if driver.signal.0 == x.0 {
-            return true;
-        }
-    }
-    false
-}
-
-/// Those of these statements that are for a signal.
-fn picked(alloc: Global, drivers: &[Driver], x: SigId) -> Result<List<StmtId>, NoMemory>
-    ensures { IfOk result (λ list. list ≡ picked x.0 drivers.now) }
-{
-    let mut list = List::new(alloc);
-    for driver in drivers {
-        if driver.signal.0 == x.0 {
-            list.push(driver.stmt)?;
-        }
-    }
-    Ok(list)
-}
-
-/// The first domain with a statement for a signal.
-fn first_domain(domains: &[List<Driver>], x: SigId) -> Option<usize>
-    ensures { result ≡ first_domain x.0 0 domains.now }
-{
-    for (k, drivers) in domains.iter().enumerate() {
-        if is_driven(drivers.as_slice(), x) {
-            return Some(k);
-        }
-    }
-    None
 }
 
 /// Whether a target is a whole signal, or all its bits.
@@ -249,64 +135,165 @@ fn single(design: &Design, ids: &[StmtId]) -> Option<ExprId>
     }
 }
 
-/// How the net of a signal with combinatorial statements is driven.
-fn combined(alloc: Global, design: &Design, drivers: &[Driver], x: SigId) -> Result<Drive, NoMemory>
-    requires keeps { Keeps design.now }
-    requires drivers { AreDrivers design.now design.now.comb drivers.now }
-    ensures { IfOk result (λ r. drive_of r ≡ combined (own design.now x.0 design.now.comb) (single design.now (own design.now x.0 design.now.comb))) }
+/// Adds a statement to a block of `always @(*)`.
+fn add_comb(alloc: Global, drive: &mut Drive, id: StmtId) -> Result<(), NoMemory>
+    ensures { OnOk result (drive_of drive.new ≡ with_comb id (drive_of drive.old)) }
 {
-    let body = picked(alloc, drivers, x)?;
-    match single(design, body.as_slice()) {
-        Some(value) => Ok(Drive::Equal(value)),
-        None => Ok(Drive::Combined(body)),
+    if let Drive::CombBlock(body) = drive {
+        return body.push(id);
+    }
+    *drive = Drive::CombBlock(List::of_one(alloc, id)?);
+    Ok(())
+}
+
+/// Adds a statement to a block at the rise of a domain's clock.
+fn add_clocked(alloc: Global, drive: &mut Drive, domain: usize, id: StmtId) -> Result<(), NoMemory>
+    ensures { OnOk result (drive_of drive.new ≡ with_clocked domain id (drive_of drive.old)) }
+{
+    if let Drive::Sync { domain: own, body } = drive
+        && *own == domain
+    {
+        return body.push(id);
+    }
+    let body = List::of_one(alloc, id)?;
+    *drive = Drive::Sync { domain, body };
+    Ok(())
+}
+
+/// Adds a statement to the block of a signal; what drove it otherwise doesn't any more.
+fn add(alloc: Global, drive: &mut Drive, clock: Option<usize>, id: StmtId) -> Result<(), NoMemory>
+    ensures { OnOk result (drive_of drive.new ≡ with_stmt clock id (drive_of drive.old)) }
+{
+    match clock {
+        None => add_comb(alloc, drive, id),
+        Some(domain) => add_clocked(alloc, drive, domain, id),
     }
 }
 
-impl Drivers {
-    /// The statements of a lowered design, each with its signal.
-    pub fn new(alloc: Global, design: &Design) -> Result<Drivers, NoMemory>
-        requires keeps { Keeps design.now }
-        requires lowered { IsLowered design.now }
-        ensures { IfOk result (λ drivers. AreDriversOf design.now drivers) }
-    {
-        let comb = drivers_of(alloc, design, design.comb.as_slice())?;
-        let domains = domain_drivers(alloc, design)?;
-        Ok(Drivers { comb, domains })
+/// Drives the signals with statements of this list by their blocks.
+fn fill(
+    alloc: Global,
+    design: &Design,
+    clock: Option<usize>,
+    ids: &[StmtId],
+    drives: &mut [Drive],
+) -> Result<(), NoMemory>
+    requires keeps { Keeps design.now }
+    requires there { IsTrue (all_stmts_below (length design.now.stmts) ids.now) }
+    requires plain { ArePlain (block design.now ids.now) }
+    requires long { length drives.old ≡ length design.now.signals }
+    requires none { HaveNoBlock clock drives.old }
+    ensures { OnOk result (AreFilled design.now clock ids.now drives.old drives.new) }
+{
+    for id in ids {
+        let signal = signal_of(design, *id);
+        add(alloc, &mut drives[signal.0], clock, *id)?;
     }
+    Ok(())
+}
 
-    /// How the net of a signal is driven.
-    pub fn drive(&self, alloc: Global, design: &Design, x: SigId) -> Result<Drive, NoMemory>
-        requires keeps { Keeps design.now }
-        requires drivers { AreDriversOf design.now self.now }
-        ensures drive { IfOk result (λ r. drive_of r ≡ drive design.now x.0) }
-        ensures there { IfOk result (λ r. IsThere design.now (drive_of r)) }
-    {
-        if is_driven(self.comb.as_slice(), x) {
-            return combined(alloc, design, self.comb.as_slice(), x);
-        }
-        if let Some(domain) = first_domain(self.domains.as_slice(), x) {
-            let body = picked(alloc, self.domains.at(domain).as_slice(), x)?;
-            return Ok(Drive::Clocked { domain, body });
-        }
-        if is_port(design, x) {
-            Ok(Drive::Given)
-        } else {
-            Ok(Drive::Held)
-        }
+/// Whether a port is an input: nothing else gives it.
+fn is_input(is_port: bool, signal: &Signal) -> bool
+    ensures { result ≡ (is_port && not signal.now.by_bus) }
+{
+    is_port && !signal.by_bus
+}
+
+/// How a net is driven that no statement drives.
+fn idle_drive(is_input: bool) -> Drive
+    ensures { drive_of result ≡ idle_drive is_input }
+{
+    if is_input {
+        Drive::Input
+    } else {
+        Drive::Undriven
     }
 }
 
-/// How the net of each signal is driven.
-pub fn drives(alloc: Global, design: &Design) -> Result<List<Drive>, NoMemory>
-    requires keeps { Keeps design.now }
-    requires lowered { IsLowered design.now }
-    ensures { IfOk result (λ drives. AreDrives design.now drives) }
+/// How the nets are driven before any statement.
+fn idle(alloc: Global, design: &Design, ports: &[bool]) -> Result<Vec<Drive>, NoMemory>
+    requires { AreMarks design.now ports.now }
+    ensures { IfOk result (λ drives. AreIdle design.now (length design.now.signals) drives.items) }
 {
-    let drivers = Drivers::new(alloc, design)?;
-    let mut drives = List::new(alloc);
+    let mut drives = Vec::new(alloc);
     for x in 0..design.signals.len() {
-        let drive = drivers.drive(alloc, design, SigId(x))?;
-        drives.push(drive)?;
+        let signal = design.signals.at(x);
+        drives.push(idle_drive(is_input(ports[x], signal)))?;
     }
     Ok(drives)
+}
+
+/// Drives the signals with statements of a domain by their blocks; the first domain counts.
+fn fill_domains(alloc: Global, design: &Design, drives: &mut [Drive]) -> Result<(), NoMemory>
+    requires keeps { Keeps design.now }
+    requires lowered { IsLowered design.now }
+    requires idle { AreClocked design.now (length design.now.domains) drives.old }
+    ensures { OnOk result (AreClocked design.now 0 drives.new) }
+{
+    for k in (0..design.domains.len()).rev() {
+        let stmts = domain_stmts(alloc, design, k)?;
+        fill(alloc, design, Some(k), stmts.as_slice(), drives)?;
+    }
+    Ok(())
+}
+
+/// The right side of a block that is one unconditional assignment to a whole signal.
+fn whole_of(design: &Design, drive: &Drive) -> Option<ExprId>
+    requires keeps { Keeps design.now }
+    requires there { IsThere design.now (drive_of drive.now) }
+    ensures { result ≡ whole_of design.now (drive_of drive.now) }
+{
+    match drive {
+        Drive::CombBlock(body) => single(design, body.as_slice()),
+        Drive::Input | Drive::Undriven | Drive::CombAssign(_) | Drive::Sync { .. } => None,
+    }
+}
+
+/// Writes a block that is one unconditional assignment to a whole signal as such.
+fn close_one(design: &Design, drive: &mut Drive)
+    requires keeps { Keeps design.now }
+    requires there { IsThere design.now (drive_of drive.old) }
+    ensures { drive_of drive.new ≡ closed design.now (drive_of drive.old) }
+{
+    if let Some(value) = whole_of(design, drive) {
+        *drive = Drive::CombAssign(value);
+    }
+}
+
+/// Writes the blocks that are one unconditional assignment to a whole signal as such.
+fn close(design: &Design, drives: &mut [Drive])
+    requires keeps { Keeps design.now }
+    requires there { AllAreThere design.now drives.old }
+    ensures { AreClosed design.now drives.old drives.new }
+{
+    for x in 0..drives.len() {
+        close_one(design, &mut drives[x]);
+    }
+}
+
+/// Drives all signals: by the domains' statements, and then by the combinatorial ones.
+fn drive_all(alloc: Global, design: &Design, drives: &mut [Drive]) -> Result<(), NoMemory>
+    requires keeps { Keeps design.now }
+    requires lowered { IsLowered design.now }
+    requires fit { MemoriesFit design.now }
+    requires idle { AreClocked design.now (length design.now.domains) drives.old }
+    ensures { OnOk result (AreDrives design.now drives.new) }
+{
+    fill_domains(alloc, design, drives)?;
+    fill(alloc, design, None, design.comb.as_slice(), drives)?;
+    close(design, drives);
+    Ok(())
+}
+
+/// How the net of each signal is driven, in time that is linear in the design.
+pub fn drives(alloc: Global, design: &Design, ports: &[bool]) -> Result<List<Drive>, NoMemory>
+    requires keeps { Keeps design.now }
+    requires lowered { IsLowered design.now }
+    requires fit { MemoriesFit design.now }
+    requires ports { AreMarks design.now ports.now }
+    ensures { IfOk result (λ drives. AreDrives design.now drives) }
+{
+    let mut drives = idle(alloc, design, ports)?;
+    drive_all(alloc, design, drives.as_mut_slice())?;
+    Ok(List::from_vec(drives))
 }

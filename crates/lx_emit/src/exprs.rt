@@ -9,14 +9,15 @@ ghost use Rattle.lx_vtree.specs.Below.{are_below};
 ghost use Rattle.lx_vtree.specs.Growth.{Grows};
 ghost use Rattle.lx_vtree.specs.Trees.{tree_at, plants};
 ghost use Rattle.lx_fhdl.specs.Below.{all_below};
-ghost use Rattle.lx_fhdl.specs.Lowered.{is_no_pick};
 ghost use Rattle.lx_fhdl.specs.declared.exprs.Expr.{Expr};
-ghost use Rattle.lx_emission.specs.Naming.{has_net, node_name};
-ghost use Rattle.lx_emission.specs.Nodes.{operand, node_shape, node_text, wide_if, unary_text, binary_text, choice_text, parts_onto, cat_text, slice_text};
+ghost use Rattle.lx_emission.specs.Naming.{node_name};
+ghost use Rattle.lx_emission.specs.Emission.{is_net_node};
+ghost use Rattle.lx_emission.specs.Nodes.{node_shape, wide_if, unary_text, binary_text, choice_text, parts_onto, cat_text, slice_text};
 ghost use Rattle.lx_emit.specs.Operands.{tree_of};
-ghost use Rattle.lx_emit.specs.Tables.{IsSheet, Put, PutParts, text_of};
+ghost use Rattle.lx_emit.specs.Plans.{memory_in, node_in, operand_in};
+ghost use Rattle.lx_emit.specs.Tables.{Put, PutParts, text_of};
 
-use crate::tables::{Sheet, net_name};
+use crate::tables::{Sheet, memory_name, net_name, number_at, shape_at};
 use lx_arena::Arena;
 use lx_fhdl::{Expr, ExprId};
 use lx_num::{Shape, field};
@@ -60,9 +61,8 @@ pub(crate) fn constant(value: i128, bits: u32, signed: bool) -> Literal
 
 /// An expression where it is read.
 pub fn operand_of(alloc: Global, sheet: &Sheet, id: ExprId) -> Result<Operand, NoMemory>
-    requires sheet { IsSheet sheet.now }
-    requires place { id.place < length sheet.now.design.now.exprs }
-    ensures { IfOk result (λ o. tree_of o ≡ operand sheet.now.design.now sheet.now.names.now id.place) }
+    requires { id.place < length sheet.now.design.exprs }
+    ensures { IfOk result (λ o. tree_of o ≡ operand_in sheet.now id.place) }
 {
     match sheet.design.exprs.get(id) {
         Expr::Const {
@@ -71,7 +71,7 @@ pub fn operand_of(alloc: Global, sheet: &Sheet, id: ExprId) -> Result<Operand, N
             signed,
         } => Ok(Operand::Literal(constant(*value, *bits, *signed))),
         Expr::Sig(x) => Ok(Operand::Net(net_name(alloc, sheet, *x)?)),
-        _ => Ok(Operand::Net(node_name(alloc, sheet.numbers[id.place])?)),
+        _ => Ok(Operand::Net(node_name(alloc, number_at(sheet, id))?)),
     }
 }
 
@@ -96,9 +96,8 @@ pub fn put_operand(
     sheet: &Sheet,
     id: ExprId,
 ) -> Result<VExprId, NoMemory>
-    requires sheet { IsSheet sheet.now }
-    requires place { id.place < length sheet.now.design.now.exprs }
-    ensures { IfOk result (λ i. Put out.old out.new i.place (operand sheet.now.design.now sheet.now.names.now id.place)) }
+    requires { id.place < length sheet.now.design.exprs }
+    ensures { IfOk result (λ i. Put out.old out.new i.place (operand_in sheet.now id.place)) }
 {
     match operand_of(alloc, sheet, id)? {
         Operand::Literal(literal) => put_literal(out, literal),
@@ -119,7 +118,7 @@ fn put_wide(
     if widen {
         let zero = put_zero(out)?;
         let more = List::of_one(alloc, of)?;
-        let both = add_expr(out, VExpr::Concat { first: zero, more })?;
+        let both = add_expr(out, VExpr::Concatenation { first: zero, more })?;
         add_expr(out, VExpr::ToSigned(both))
     } else {
         Ok(of)
@@ -236,7 +235,7 @@ fn put_choice(
 {
     let so = put_wide(alloc, out, row.widen_left, yes)?;
     let other = put_wide(alloc, out, row.widen_right, no)?;
-    add_expr(out, VExpr::Choose { cond, so, other })
+    add_expr(out, VExpr::Conditional { cond, so, other })
 }
 
 // Adds the texts of parts, the last one first.
@@ -246,9 +245,8 @@ fn put_parts(
     sheet: &Sheet,
     parts: &[ExprId],
 ) -> Result<List<VExprId>, NoMemory>
-    requires sheet { IsSheet sheet.now }
-    requires places { IsTrue (all_below (length sheet.now.design.now.exprs) parts.now) }
-    ensures { IfOk result (λ ids. PutParts out.old out.new ids (parts_onto (operand sheet.now.design.now sheet.now.names.now) parts.now tree.NoMore)) }
+    requires { IsTrue (all_below (length sheet.now.design.exprs) parts.now) }
+    ensures { IfOk result (λ ids. PutParts out.old out.new ids (parts_onto (operand_in sheet.now) parts.now tree.NoMore)) }
 {
     let mut texts = List::new(alloc);
     for place in (0..parts.len()).rev() {
@@ -265,15 +263,14 @@ fn put_cat(
     sheet: &Sheet,
     parts: &[ExprId],
 ) -> Result<VExprId, NoMemory>
-    requires sheet { IsSheet sheet.now }
-    requires places { IsTrue (all_below (length sheet.now.design.now.exprs) parts.now) }
+    requires places { IsTrue (all_below (length sheet.now.design.exprs) parts.now) }
     requires some { 0 < length parts.now }
-    ensures { IfOk result (λ i. Put out.old out.new i.place (cat_text (operand sheet.now.design.now sheet.now.names.now) parts.now)) }
+    ensures { IfOk result (λ i. Put out.old out.new i.place (cat_text (operand_in sheet.now) parts.now)) }
 {
     let last = parts.len() - 1;
     let first = put_operand(alloc, out, sheet, parts[last])?;
     let more = put_parts(alloc, out, sheet, &parts[..last])?;
-    add_expr(out, VExpr::Concat { first, more })
+    add_expr(out, VExpr::Concatenation { first, more })
 }
 
 // Bits `low` to `high - 1` of a net of so many bits; a select never covers its name.
@@ -291,7 +288,7 @@ fn put_select(
         let net = put_net(out, name)?;
         return add_expr(out, VExpr::ToUnsigned(net));
     }
-    let node = VExpr::Select {
+    let node = VExpr::PartSelect {
         name,
         hi: (high - 1) as u64,
         lo: low as u64,
@@ -331,21 +328,11 @@ fn put_slice(
     }
 }
 
-// The shape of an expression.
-fn shape_at(sheet: &Sheet, id: ExprId) -> Shape
-    requires sheet { IsSheet sheet.now }
-    requires place { id.place < length sheet.now.design.now.exprs }
-    ensures { result ≡ node_shape sheet.now.design.now id.place }
-{
-    sheet.shapes[id.place]
-}
-
 // How an operator of these two operands is written.
 fn row_at(sheet: &Sheet, op: Op, left: ExprId, right: ExprId) -> OpRow
-    requires sheet { IsSheet sheet.now }
-    requires left { left.place < length sheet.now.design.now.exprs }
-    requires right { right.place < length sheet.now.design.now.exprs }
-    ensures { result ≡ row_of op (mix_of (node_shape sheet.now.design.now left.place).signed (node_shape sheet.now.design.now right.place).signed) }
+    requires left { left.place < length sheet.now.design.exprs }
+    requires right { right.place < length sheet.now.design.exprs }
+    ensures { result ≡ row_of op (mix_of (node_shape sheet.now.design left.place).signed (node_shape sheet.now.design right.place).signed) }
 {
     let mix = mix(shape_at(sheet, left).signed, shape_at(sheet, right).signed);
     op_row(op, mix)
@@ -359,8 +346,7 @@ fn put_unary_of(
     op: Op,
     of: ExprId,
 ) -> Result<VExprId, NoMemory>
-    requires sheet { IsSheet sheet.now }
-    requires place { of.place < length sheet.now.design.now.exprs }
+    requires { of.place < length sheet.now.design.exprs }
     ensures { IfOk result (λ i. Put out.old out.new i.place (text_of sheet.now (Expr.Unary op of))) }
 {
     let row = row_at(sheet, op, of, of);
@@ -377,9 +363,8 @@ fn put_binary_of(
     left: ExprId,
     right: ExprId,
 ) -> Result<VExprId, NoMemory>
-    requires sheet { IsSheet sheet.now }
-    requires left { left.place < length sheet.now.design.now.exprs }
-    requires right { right.place < length sheet.now.design.now.exprs }
+    requires left { left.place < length sheet.now.design.exprs }
+    requires right { right.place < length sheet.now.design.exprs }
     ensures { IfOk result (λ i. Put out.old out.new i.place (text_of sheet.now (Expr.Binary op left right))) }
 {
     let row = row_at(sheet, op, left, right);
@@ -397,10 +382,9 @@ fn put_choice_of(
     yes: ExprId,
     no: ExprId,
 ) -> Result<VExprId, NoMemory>
-    requires sheet { IsSheet sheet.now }
-    requires cond { cond.place < length sheet.now.design.now.exprs }
-    requires yes { yes.place < length sheet.now.design.now.exprs }
-    requires no { no.place < length sheet.now.design.now.exprs }
+    requires cond { cond.place < length sheet.now.design.exprs }
+    requires yes { yes.place < length sheet.now.design.exprs }
+    requires no { no.place < length sheet.now.design.exprs }
     ensures { IfOk result (λ i. Put out.old out.new i.place (text_of sheet.now (Expr.Mux cond yes no))) }
 {
     let row = row_at(sheet, Op::Mux, yes, no);
@@ -418,13 +402,12 @@ fn put_copies_of(
     of: ExprId,
     count: u32,
 ) -> Result<VExprId, NoMemory>
-    requires sheet { IsSheet sheet.now }
-    requires place { of.place < length sheet.now.design.now.exprs }
+    requires { of.place < length sheet.now.design.exprs }
     ensures { IfOk result (λ i. Put out.old out.new i.place (text_of sheet.now (Expr.Replicate of count))) }
 {
     let count = count as u64;
     let of = put_operand(alloc, out, sheet, of)?;
-    add_expr(out, VExpr::Repeat { count, of })
+    add_expr(out, VExpr::Replication { count, of })
 }
 
 // Bits `low` to `high - 1` of an operand.
@@ -436,8 +419,7 @@ fn put_slice_of(
     low: u32,
     high: u32,
 ) -> Result<VExprId, NoMemory>
-    requires sheet { IsSheet sheet.now }
-    requires place { of.place < length sheet.now.design.now.exprs }
+    requires place { of.place < length sheet.now.design.exprs }
     requires some { low < high }
     requires most { high < 128 }
     ensures { IfOk result (λ i. Put out.old out.new i.place (text_of sheet.now (Expr.Slice of low high))) }
@@ -447,18 +429,33 @@ fn put_slice_of(
     put_slice(out, of, bits, low, high)
 }
 
-/// Adds the text of an operator or slice, which drives its net: its operands sized by the operator's row.
+// A word of a memory.
+fn put_word_of(
+    alloc: Global,
+    out: &mut Arena<VExpr>,
+    sheet: &Sheet,
+    memory: usize,
+    at: ExprId,
+) -> Result<VExprId, NoMemory>
+    requires memory { memory < length sheet.now.design.memories }
+    requires place { at.place < length sheet.now.design.exprs }
+    ensures { IfOk result (λ i. Put out.old out.new i.place (tree.Word (memory_in sheet.now memory) (operand_in sheet.now at.place))) }
+{
+    let name = memory_name(alloc, sheet, memory)?;
+    let index = put_operand(alloc, out, sheet, at)?;
+    add_expr(out, VExpr::Word { name, index })
+}
+
+/// Adds the text of a node with a net, which drives that net: its operands sized by the operator's row.
 pub fn put_node(
     alloc: Global,
     out: &mut Arena<VExpr>,
     sheet: &Sheet,
     id: ExprId,
 ) -> Result<VExprId, NoMemory>
-    requires sheet { IsSheet sheet.now }
-    requires place { id.place < length sheet.now.design.now.exprs }
-    requires operator { (x : Expr) → slice_get sheet.now.design.now.exprs id.place ≡ Some x → has_net x ≡ true }
-    requires no_pick { (x : Expr) → slice_get sheet.now.design.now.exprs id.place ≡ Some x → is_no_pick x ≡ true }
-    ensures { IfOk result (λ i. Put out.old out.new i.place (node_text sheet.now.design.now sheet.now.names.now id.place)) }
+    requires place { id.place < length sheet.now.design.exprs }
+    requires operator { is_net_node (slice_get sheet.now.design.exprs id.place) ≡ true }
+    ensures { IfOk result (λ i. Put out.old out.new i.place (node_in sheet.now id.place)) }
 {
     match sheet.design.exprs.get(id) {
         Expr::Unary { op, of } => put_unary_of(alloc, out, sheet, *op, *of),
@@ -467,6 +464,7 @@ pub fn put_node(
         Expr::Cat(parts) => put_cat(alloc, out, sheet, parts.as_slice()),
         Expr::Replicate { of, count } => put_copies_of(alloc, out, sheet, *of, *count),
         Expr::Slice { of, low, high } => put_slice_of(alloc, out, sheet, *of, *low, *high),
+        Expr::Fetch { memory, at, .. } => put_word_of(alloc, out, sheet, *memory, *at),
         Expr::Const { .. } | Expr::Sig(_) | Expr::Pick { .. } => unreachable!(),
     }
 }

@@ -7,10 +7,13 @@ pub mod blocks;
 pub mod decls;
 pub mod drives;
 pub mod exprs;
+pub mod marks;
+pub mod memories;
 pub mod nets;
 pub mod ports;
 pub mod stmts;
 pub mod tables;
 pub mod whole;
+pub mod writes;
 
 pub use whole::emit_design;

@@ -2,17 +2,16 @@
 
 ghost use Rattle.std.specs.Prelude.{◌≡◌, ◌<◌, length, option_map, IfOk};
 ghost use Rattle.lx_vtree.specs.Modules.{literal_of, net_of};
-ghost use Rattle.lx_emission.specs.Naming.{clock_name, node_net};
-ghost use Rattle.lx_emission.specs.Nodes.{node_shape};
+ghost use Rattle.lx_emission.specs.Naming.{clock_name};
 ghost use Rattle.lx_emission.specs.Emission.{wire};
 ghost use Rattle.lx_emission.specs.Signals.{init_of, reset_of_signal, shape_of_signal, signal_net};
-ghost use Rattle.lx_emit.specs.Drives.{AreDrives, drive_of};
-ghost use Rattle.lx_emit.specs.Tables.{IsSheet};
+ghost use Rattle.lx_emit.specs.Drives.{drive_of};
+ghost use Rattle.lx_emit.specs.Plans.{node_wire_in};
 
 use crate::blocks::reset_literal;
 use crate::drives::Drive;
 use crate::exprs::node_name;
-use crate::tables::{Sheet, net_name};
+use crate::tables::{Sheet, drive_of, net_name, number_at, shape_at, shape_of_signal};
 use lx_fhdl::{Domain, ExprId, SigId};
 use lx_num::Shape;
 use lx_text::{NoMemory, Text, Word};
@@ -21,30 +20,27 @@ use std::alloc::Global;
 
 // The first value of a signal's net, where a block drives it.
 fn init(sheet: &Sheet, drive: &Drive, x: SigId) -> Option<Literal>
-    requires sheet { IsSheet sheet.now }
-    requires signal { x.0 < length sheet.now.design.now.signals }
-    ensures { option_map literal_of result ≡ init_of (shape_of_signal sheet.now.design.now x.0) (reset_of_signal sheet.now.design.now x.0) (drive_of drive.now) }
+    requires { x.0 < length sheet.now.design.signals }
+    ensures { option_map literal_of result ≡ init_of (shape_of_signal sheet.now.design x.0) (reset_of_signal sheet.now.design x.0) (drive_of drive.now) }
 {
     match drive {
-        Drive::Given | Drive::Held | Drive::Equal(_) => None,
-        Drive::Combined(_) | Drive::Clocked { .. } => Some(reset_literal(sheet, x)),
+        Drive::Input | Drive::Undriven | Drive::CombAssign(_) => None,
+        Drive::CombBlock(_) | Drive::Sync { .. } => Some(reset_literal(sheet, x)),
     }
 }
 
 /// The net of a signal: a register where a block drives it.
-pub fn signal_net(alloc: Global, sheet: &Sheet, drives: &[Drive], x: SigId) -> Result<Net, NoMemory>
-    requires sheet { IsSheet sheet.now }
-    requires drives { AreDrives sheet.now.design.now drives.now }
-    requires signal { x.0 < length sheet.now.design.now.signals }
-    ensures { IfOk result (λ net. net_of net ≡ signal_net sheet.now.design.now sheet.now.names.now x.0) }
+pub fn signal_net(alloc: Global, sheet: &Sheet, x: SigId) -> Result<Net, NoMemory>
+    requires { x.0 < length sheet.now.design.signals }
+    ensures { IfOk result (λ net. net_of net ≡ signal_net sheet.now.design sheet.now.names x.0) }
 {
-    let shape = sheet.design.signals.at(x.0).shape;
+    let shape = shape_of_signal(sheet, x);
     let name = net_name(alloc, sheet, x)?;
     Ok(Net {
         signed: shape.signed,
         bits: shape.bits as u64,
         name,
-        init: init(sheet, &drives[x.0], x),
+        init: init(sheet, drive_of(sheet, x), x),
     })
 }
 
@@ -62,12 +58,11 @@ pub fn wire(shape: Shape, name: Word) -> Net
 
 /// The wire of an operator or slice.
 pub fn node_wire(alloc: Global, sheet: &Sheet, id: ExprId) -> Result<Net, NoMemory>
-    requires sheet { IsSheet sheet.now }
-    requires place { id.place < length sheet.now.design.now.exprs }
-    ensures { IfOk result (λ net. net_of net ≡ wire (node_shape sheet.now.design.now id.place).signed (node_shape sheet.now.design.now id.place).bits (node_net sheet.now.design.now.exprs id.place)) }
+    requires { id.place < length sheet.now.design.exprs }
+    ensures { IfOk result (λ net. net_of net ≡ node_wire_in sheet.now id.place) }
 {
-    let name = node_name(alloc, sheet.numbers[id.place])?;
-    Ok(wire(sheet.shapes[id.place], name))
+    let name = node_name(alloc, number_at(sheet, id))?;
+    Ok(wire(shape_at(sheet, id), name))
 }
 
 /// The name of a domain's clock.

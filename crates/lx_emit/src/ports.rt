@@ -1,16 +1,16 @@
 //! The ports of a module (IEEE 1364-2005, "Modules").
 
-ghost use Rattle.std.specs.Prelude.{◌≡◌, ◌++◌, ◌∷◌, ◌<◌, true, false, length, map, IfOk, IfSome, OnOk};
+ghost use Rattle.std.specs.Prelude.{◌≡◌, ◌++◌, ◌<◌, true, false, length, map, IfOk, IfSome, OnOk};
 ghost use Rattle.lx_vtree.specs.Modules.{port_of};
 ghost use Rattle.lx_fhdl.specs.declared.exprs.SigId.{SigId};
 ghost use Rattle.lx_emission.specs.Naming.{clock_name};
-ghost use Rattle.lx_emission.specs.Emission.{domain_ports, is_given, ports_of, reset_port, signal_port, wire};
-ghost use Rattle.lx_emit.specs.Drives.{AreDrives, drive_of};
-ghost use Rattle.lx_emit.specs.Tables.{IsSheet};
+ghost use Rattle.lx_emission.specs.Emission.{domain_ports, is_input_drive, ports_of, signal_port, wire};
+ghost use Rattle.lx_emit.specs.Drives.{drive_of};
+ghost use Rattle.lx_emit.specs.Plans.{domain_ports_in, ios_in};
 
 use crate::drives::Drive;
 use crate::nets::{clock_name, signal_net, wire};
-use crate::tables::Sheet;
+use crate::tables::{Sheet, drive_of};
 use lx_fhdl::{Domain, SigId};
 use lx_num::Shape;
 use lx_text::{List, NoMemory};
@@ -18,25 +18,23 @@ use lx_vtree::Port;
 use std::alloc::Global;
 
 // Whether a signal is an input.
-fn is_given(drive: &Drive) -> bool
-    ensures { result ≡ is_given (drive_of drive.now) }
+fn is_input(drive: &Drive) -> bool
+    ensures { result ≡ is_input_drive (drive_of drive.now) }
 {
     match drive {
-        Drive::Given => true,
-        Drive::Held | Drive::Equal(_) | Drive::Combined(_) | Drive::Clocked { .. } => false,
+        Drive::Input => true,
+        Drive::Undriven | Drive::CombAssign(_) | Drive::CombBlock(_) | Drive::Sync { .. } => false,
     }
 }
 
 // The port of a signal: an input where nothing in the design drives it.
-fn signal_port(alloc: Global, sheet: &Sheet, drives: &[Drive], x: SigId) -> Result<Port, NoMemory>
-    requires sheet { IsSheet sheet.now }
-    requires drives { AreDrives sheet.now.design.now drives.now }
-    requires signal { x.0 < length sheet.now.design.now.signals }
-    ensures { IfOk result (λ port. port_of port ≡ signal_port sheet.now.design.now sheet.now.names.now x.0) }
+fn signal_port(alloc: Global, sheet: &Sheet, x: SigId) -> Result<Port, NoMemory>
+    requires { x.0 < length sheet.now.design.signals }
+    ensures { IfOk result (λ port. port_of port ≡ signal_port sheet.now.design sheet.now.names x.0) }
 {
-    let net = signal_net(alloc, sheet, drives, x)?;
+    let net = signal_net(alloc, sheet, x)?;
     Ok(Port {
-        is_input: is_given(&drives[x.0]),
+        is_input: is_input(drive_of(sheet, x)),
         net,
     })
 }
@@ -60,52 +58,35 @@ fn clock_port(alloc: Global, domain: &Domain) -> Result<Port, NoMemory>
 fn put_domain(
     alloc: Global,
     sheet: &Sheet,
-    drives: &[Drive],
     ports: &mut List<Port>,
     domain: &Domain,
 ) -> Result<(), NoMemory>
-    requires sheet { IsSheet sheet.now }
-    requires drives { AreDrives sheet.now.design.now drives.now }
-    requires reset { IfSome domain.now.reset (λ r. r.0 < length sheet.now.design.now.signals) }
-    ensures { OnOk result (map port_of ports.new ≡ map port_of ports.old ++ record { is_input = true; net = wire false 1 (clock_name domain.now.name) } ∷ reset_port sheet.now.design.now sheet.now.names.now domain.now.reset) }
+    requires { IfSome domain.now.reset (λ r. r.0 < length sheet.now.design.signals) }
+    ensures { OnOk result (map port_of ports.new ≡ map port_of ports.old ++ domain_ports_in sheet.now domain.now) }
 {
     ports.push(clock_port(alloc, domain)?)?;
     if let Some(reset) = domain.reset {
-        ports.push(signal_port(alloc, sheet, drives, reset)?)?;
+        ports.push(signal_port(alloc, sheet, reset)?)?;
     }
     Ok(())
 }
 
 // Adds the ports of all domains.
-fn put_domains(
-    alloc: Global,
-    sheet: &Sheet,
-    drives: &[Drive],
-    ports: &mut List<Port>,
-) -> Result<(), NoMemory>
-    requires sheet { IsSheet sheet.now }
-    requires drives { AreDrives sheet.now.design.now drives.now }
-    ensures { OnOk result (map port_of ports.new ≡ map port_of ports.old ++ domain_ports sheet.now.design.now sheet.now.names.now 0 sheet.now.design.now.domains) }
+fn put_domains(alloc: Global, sheet: &Sheet, ports: &mut List<Port>) -> Result<(), NoMemory>
+    ensures { OnOk result (map port_of ports.new ≡ map port_of ports.old ++ domain_ports sheet.now.design sheet.now.names 0 sheet.now.design.domains) }
 {
     for domain in sheet.design.domains.as_slice() {
-        put_domain(alloc, sheet, drives, ports, domain)?;
+        put_domain(alloc, sheet, ports, domain)?;
     }
     Ok(())
 }
 
 // Adds the ports that a design names.
-fn put_ios(
-    alloc: Global,
-    sheet: &Sheet,
-    drives: &[Drive],
-    ports: &mut List<Port>,
-) -> Result<(), NoMemory>
-    requires sheet { IsSheet sheet.now }
-    requires drives { AreDrives sheet.now.design.now drives.now }
-    ensures { OnOk result (map port_of ports.new ≡ map port_of ports.old ++ map (λ (x : SigId). signal_port sheet.now.design.now sheet.now.names.now x.0) sheet.now.design.now.ios) }
+fn put_ios(alloc: Global, sheet: &Sheet, ports: &mut List<Port>) -> Result<(), NoMemory>
+    ensures { OnOk result (map port_of ports.new ≡ map port_of ports.old ++ ios_in sheet.now) }
 {
     for x in sheet.design.ios.as_slice() {
-        let port = signal_port(alloc, sheet, drives, *x)?;
+        let port = signal_port(alloc, sheet, *x)?;
         ports.push(port)?;
     }
     Ok(())
@@ -113,13 +94,11 @@ fn put_ios(
 
 /// The ports of a module: each domain's clock and reset, and then those that the design names.
 #[tactic(auto, unfolding(lx_emission::specs::Emission::ports_of))]
-pub fn ports(alloc: Global, sheet: &Sheet, drives: &[Drive]) -> Result<List<Port>, NoMemory>
-    requires sheet { IsSheet sheet.now }
-    requires drives { AreDrives sheet.now.design.now drives.now }
-    ensures { IfOk result (λ list. map port_of list ≡ ports_of sheet.now.design.now sheet.now.names.now) }
+pub fn ports(alloc: Global, sheet: &Sheet) -> Result<List<Port>, NoMemory>
+    ensures { IfOk result (λ list. map port_of list ≡ ports_of sheet.now.design sheet.now.names) }
 {
     let mut ports = List::new(alloc);
-    put_domains(alloc, sheet, drives, &mut ports)?;
-    put_ios(alloc, sheet, drives, &mut ports)?;
+    put_domains(alloc, sheet, &mut ports)?;
+    put_ios(alloc, sheet, &mut ports)?;
     Ok(ports)
 }

@@ -1,14 +1,13 @@
 //! Statements (IEEE 1364-2005, "Procedural assignments" and "Conditional statement").
 
-ghost use Rattle.std.specs.Prelude.{◌≡◌, ◌<◌, ◌≤◌, true, false, Some, length, slice_get, IfOk, IsTrue};
+ghost use Rattle.std.specs.Prelude.{◌≡◌, ◌<◌, ◌≤◌, Some, length, slice_get, IfOk, IsTrue};
 ghost use Rattle.lx_vtext.specs.Tree as tree;
 ghost use Rattle.lx_vtree.specs.Stmts.{StmtsPlaced, are_stmts_below};
 ghost use Rattle.lx_fhdl.specs.Designs as designs;
 ghost use Rattle.lx_fhdl.specs.Below.{all_stmts_below};
 ghost use Rattle.lx_fhdl.specs.Lowered.{IsPlain, ArePlain};
-ghost use Rattle.lx_emission.specs.Nodes.{operand};
-ghost use Rattle.lx_emission.specs.Texts.{covers, target_text, stmt_text, block_onto, else_text};
-ghost use Rattle.lx_emit.specs.Tables.{IsSheet};
+ghost use Rattle.lx_emission.specs.Texts.{covers, block_onto, else_text};
+ghost use Rattle.lx_emit.specs.Plans.{assign_in, stmt_in, target_in, when_in};
 ghost use Rattle.lx_emit.specs.Drives.{IsPlainTarget};
 ghost use Rattle.lx_emit.specs.Puts.{IsTarget, PutStmt, PutBlock, PutElse, PutStmts, texts_of};
 
@@ -29,10 +28,9 @@ fn covers(bits: u8, low: u8, len: u8) -> bool
 
 // Some bits of a signal; a slice that covers it is the whole.
 fn part(alloc: Global, sheet: &Sheet, signal: SigId, low: u8, len: u8) -> Result<VTarget, NoMemory>
-    requires sheet { IsSheet sheet.now }
-    requires signal { signal.0 < length sheet.now.design.now.signals }
+    requires signal { signal.0 < length sheet.now.design.signals }
     requires some { 1 ≤ len }
-    ensures { IfOk result (λ t. IsTarget t (target_text sheet.now.design.now sheet.now.names.now (Some (Target.Part signal low len)))) }
+    ensures { IfOk result (λ t. IsTarget t (target_in sheet.now (Some (Target.Part signal low len)))) }
 {
     let name = net_name(alloc, sheet, signal)?;
     if covers(shape_of_signal(sheet, signal).bits, low, len) {
@@ -45,10 +43,9 @@ fn part(alloc: Global, sheet: &Sheet, signal: SigId, low: u8, len: u8) -> Result
 
 /// What an assignment to a signal or to some of its bits writes.
 pub fn make_target(alloc: Global, sheet: &Sheet, id: TargetId) -> Result<VTarget, NoMemory>
-    requires sheet { IsSheet sheet.now }
-    requires place { id.place < length sheet.now.design.now.targets }
-    requires plain { IsPlainTarget (designs.target sheet.now.design.now id.place) }
-    ensures { IfOk result (λ t. IsTarget t (target_text sheet.now.design.now sheet.now.names.now (slice_get sheet.now.design.now.targets id.place))) }
+    requires place { id.place < length sheet.now.design.targets }
+    requires plain { IsPlainTarget (designs.target sheet.now.design id.place) }
+    ensures { IfOk result (λ t. IsTarget t (target_in sheet.now (slice_get sheet.now.design.targets id.place))) }
 {
     match sheet.design.targets.get(id) {
         Target::Whole(signal) => Ok(VTarget::Whole(net_name(alloc, sheet, *signal)?)),
@@ -63,23 +60,22 @@ fn put_assign(
     exprs: &mut Arena<VExpr>,
     stmts: &mut Arena<VStmt>,
     sheet: &Sheet,
-    at_once: bool,
+    blocking: bool,
     target: TargetId,
     value: ExprId,
 ) -> Result<VStmtId, NoMemory>
-    requires sheet { IsSheet sheet.now }
     requires placed { StmtsPlaced (length exprs.old) stmts.old }
-    requires target { target.place < length sheet.now.design.now.targets }
-    requires value { value.place < length sheet.now.design.now.exprs }
-    requires plain { IsPlainTarget (designs.target sheet.now.design.now target.place) }
-    ensures { IfOk result (λ i. PutStmt exprs.old exprs.new stmts.old stmts.new i.place (tree.Assign (target_text sheet.now.design.now sheet.now.names.now (slice_get sheet.now.design.now.targets target.place)) at_once (operand sheet.now.design.now sheet.now.names.now value.place))) }
+    requires target { target.place < length sheet.now.design.targets }
+    requires value { value.place < length sheet.now.design.exprs }
+    requires plain { IsPlainTarget (designs.target sheet.now.design target.place) }
+    ensures { IfOk result (λ i. PutStmt exprs.old exprs.new stmts.old stmts.new i.place (assign_in sheet.now blocking target value)) }
 {
     stmts.lower();
     let target = make_target(alloc, sheet, target)?;
     let value = put_operand(alloc, exprs, sheet, value)?;
     let node = VStmt::Assign {
         target,
-        at_once,
+        blocking,
         value,
     };
     add_stmt(exprs, stmts, node)
@@ -92,31 +88,30 @@ fn put_when(
     exprs: &mut Arena<VExpr>,
     stmts: &mut Arena<VStmt>,
     sheet: &Sheet,
-    at_once: bool,
+    blocking: bool,
     branch: &Branch,
     rest: &[StmtId],
     bound: usize,
 ) -> Result<VStmtId, NoMemory>
-    requires sheet { IsSheet sheet.now }
     requires placed { StmtsPlaced (length exprs.old) stmts.old }
-    requires within { bound ≤ length sheet.now.design.now.stmts }
-    requires cond { branch.now.cond.place < length sheet.now.design.now.exprs }
+    requires within { bound ≤ length sheet.now.design.stmts }
+    requires cond { branch.now.cond.place < length sheet.now.design.exprs }
     requires body { IsTrue (all_stmts_below bound branch.now.body) }
     requires rest { IsTrue (all_stmts_below bound rest.now) }
-    requires plain_body { ArePlain (designs.block sheet.now.design.now branch.now.body) }
-    requires plain_rest { ArePlain (designs.block sheet.now.design.now rest.now) }
-    ensures { IfOk result (λ i. PutStmt exprs.old exprs.new stmts.old stmts.new i.place (tree.When (operand sheet.now.design.now sheet.now.names.now branch.now.cond.place) (block_onto (stmt_text sheet.now.design.now sheet.now.names.now at_once) branch.now.body tree.EndBlock) (else_text (stmt_text sheet.now.design.now sheet.now.names.now at_once) rest.now))) }
+    requires plain_body { ArePlain (designs.block sheet.now.design branch.now.body) }
+    requires plain_rest { ArePlain (designs.block sheet.now.design rest.now) }
+    ensures { IfOk result (λ i. PutStmt exprs.old exprs.new stmts.old stmts.new i.place (when_in sheet.now blocking branch.now rest.now)) }
 {
     let so = put_block(
         alloc,
         exprs,
         stmts,
         sheet,
-        at_once,
+        blocking,
         branch.body.as_slice(),
         bound,
     )?;
-    let other = put_else(alloc, exprs, stmts, sheet, at_once, rest, bound)?;
+    let other = put_else(alloc, exprs, stmts, sheet, blocking, rest, bound)?;
     stmts.lower();
     let cond = put_operand(alloc, exprs, sheet, branch.cond)?;
     add_stmt(exprs, stmts, VStmt::When { cond, so, other })
@@ -129,23 +124,22 @@ pub fn put_stmt(
     exprs: &mut Arena<VExpr>,
     stmts: &mut Arena<VStmt>,
     sheet: &Sheet,
-    at_once: bool,
+    blocking: bool,
     id: StmtId,
 ) -> Result<VStmtId, NoMemory>
-    requires sheet { IsSheet sheet.now }
     requires placed { StmtsPlaced (length exprs.old) stmts.old }
-    requires place { id.place < length sheet.now.design.now.stmts }
-    requires plain { IsPlain (designs.stmt sheet.now.design.now id.place) }
-    ensures { IfOk result (λ i. PutStmt exprs.old exprs.new stmts.old stmts.new i.place (stmt_text sheet.now.design.now sheet.now.names.now at_once id.place)) }
+    requires place { id.place < length sheet.now.design.stmts }
+    requires plain { IsPlain (designs.stmt sheet.now.design id.place) }
+    ensures { IfOk result (λ i. PutStmt exprs.old exprs.new stmts.old stmts.new i.place (stmt_in sheet.now blocking id.place)) }
 {
     match sheet.design.stmts.get(id) {
         Stmt::Assign { target, value, .. } => {
-            put_assign(alloc, exprs, stmts, sheet, at_once, *target, *value)
+            put_assign(alloc, exprs, stmts, sheet, blocking, *target, *value)
         }
         Stmt::If { branches, rest, .. } => {
             let branch = branches.at(0);
             let rest = rest.as_slice();
-            put_when(alloc, exprs, stmts, sheet, at_once, branch, rest, id.place)
+            put_when(alloc, exprs, stmts, sheet, blocking, branch, rest, id.place)
         }
         Stmt::Case { .. } => unreachable!(),
     }
@@ -158,21 +152,20 @@ fn put_else(
     exprs: &mut Arena<VExpr>,
     stmts: &mut Arena<VStmt>,
     sheet: &Sheet,
-    at_once: bool,
+    blocking: bool,
     ids: &[StmtId],
     bound: usize,
 ) -> Result<Option<List<VStmtId>>, NoMemory>
-    requires sheet { IsSheet sheet.now }
     requires placed { StmtsPlaced (length exprs.old) stmts.old }
-    requires within { bound ≤ length sheet.now.design.now.stmts }
+    requires within { bound ≤ length sheet.now.design.stmts }
     requires below { IsTrue (all_stmts_below bound ids.now) }
-    requires plain { ArePlain (designs.block sheet.now.design.now ids.now) }
-    ensures { IfOk result (λ list. PutElse exprs.old exprs.new stmts.old stmts.new list (else_text (stmt_text sheet.now.design.now sheet.now.names.now at_once) ids.now)) }
+    requires plain { ArePlain (designs.block sheet.now.design ids.now) }
+    ensures { IfOk result (λ list. PutElse exprs.old exprs.new stmts.old stmts.new list (else_text (stmt_in sheet.now blocking) ids.now)) }
 {
     if ids.is_empty() {
         return Ok(None);
     }
-    let list = put_block(alloc, exprs, stmts, sheet, at_once, ids, bound)?;
+    let list = put_block(alloc, exprs, stmts, sheet, blocking, ids, bound)?;
     Ok(Some(list))
 }
 
@@ -183,19 +176,18 @@ pub fn put_block(
     exprs: &mut Arena<VExpr>,
     stmts: &mut Arena<VStmt>,
     sheet: &Sheet,
-    at_once: bool,
+    blocking: bool,
     ids: &[StmtId],
     bound: usize,
 ) -> Result<List<VStmtId>, NoMemory>
-    requires sheet { IsSheet sheet.now }
     requires placed { StmtsPlaced (length exprs.old) stmts.old }
-    requires within { bound ≤ length sheet.now.design.now.stmts }
+    requires within { bound ≤ length sheet.now.design.stmts }
     requires below { IsTrue (all_stmts_below bound ids.now) }
-    requires plain { ArePlain (designs.block sheet.now.design.now ids.now) }
-    ensures { IfOk result (λ list. PutBlock exprs.old exprs.new stmts.old stmts.new list (block_onto (stmt_text sheet.now.design.now sheet.now.names.now at_once) ids.now tree.EndBlock)) }
+    requires plain { ArePlain (designs.block sheet.now.design ids.now) }
+    ensures { IfOk result (λ list. PutBlock exprs.old exprs.new stmts.old stmts.new list (block_onto (stmt_in sheet.now blocking) ids.now tree.EndBlock)) }
 {
     let list = List::new(alloc);
-    put_stmts(alloc, exprs, stmts, sheet, at_once, ids, bound, list)
+    put_stmts(alloc, exprs, stmts, sheet, blocking, ids, bound, list)
 }
 
 /// Adds statements, each for one signal and lower than `bound`, at the end of a block's list.
@@ -205,22 +197,21 @@ pub fn put_stmts(
     exprs: &mut Arena<VExpr>,
     stmts: &mut Arena<VStmt>,
     sheet: &Sheet,
-    at_once: bool,
+    blocking: bool,
     ids: &[StmtId],
     bound: usize,
     list: List<VStmtId>,
 ) -> Result<List<VStmtId>, NoMemory>
-    requires sheet { IsSheet sheet.now }
     requires placed { StmtsPlaced (length exprs.old) stmts.old }
-    requires within { bound ≤ length sheet.now.design.now.stmts }
+    requires within { bound ≤ length sheet.now.design.stmts }
     requires below { IsTrue (all_stmts_below bound ids.now) }
-    requires plain { ArePlain (designs.block sheet.now.design.now ids.now) }
+    requires plain { ArePlain (designs.block sheet.now.design ids.now) }
     requires there { IsTrue (are_stmts_below list (length stmts.old)) }
-    ensures { IfOk result (λ after. PutStmts exprs.old exprs.new stmts.old stmts.new list after (texts_of (stmt_text sheet.now.design.now sheet.now.names.now at_once) ids.now)) }
+    ensures { IfOk result (λ after. PutStmts exprs.old exprs.new stmts.old stmts.new list after (texts_of (stmt_in sheet.now blocking) ids.now)) }
 {
     let mut after = list;
     for id in ids {
-        let stmt = put_stmt(alloc, exprs, stmts, sheet, at_once, *id)?;
+        let stmt = put_stmt(alloc, exprs, stmts, sheet, blocking, *id)?;
         after.push(stmt)?;
     }
     Ok(after)

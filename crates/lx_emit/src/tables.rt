@@ -6,25 +6,50 @@ ghost use Rattle.lx_fhdl.specs.Nodes.{HasParts, node_fault, node_shape};
 ghost use Rattle.lx_width.specs.Width.{NamesBelow, signal_shape};
 ghost use Rattle.lx_fhdl.specs.Designs.{shapes};
 ghost use Rattle.lx_fhdl.specs.Keeping.{Keeps};
-ghost use Rattle.lx_emission.specs.Naming.{has_net, net};
-ghost use Rattle.lx_emit.specs.Tables.{AreNumbers, AreShapes, IsSheet};
+ghost use Rattle.lx_emission.specs.Emits.{CanBeEmitted};
+ghost use Rattle.lx_emission.specs.Naming.{has_net, nets_before};
+ghost use Rattle.lx_emission.specs.Nodes as nodes;
+ghost use Rattle.lx_emission.specs.Emission.{is_port};
+ghost use Rattle.lx_emission.specs.Signals.{drive};
+ghost use Rattle.lx_emit.specs.Drives.{IsPlainDrive, IsThere, drive_of};
+ghost use Rattle.lx_emit.specs.Plans.{memory_in, net_in, plan};
+ghost use Rattle.lx_emit.specs.Tables.{AreNumbers, AreShapes};
 
-use lx_fhdl::{Design, Expr, SigId, Signal};
+use crate::drives::{Drive, drives};
+use crate::marks::marks;
+use lx_fhdl::{Design, Expr, ExprId, SigId, Signal};
 use lx_num::Shape;
 use lx_text::{List, NoMemory, Word};
 use lx_width::node_shape;
 use std::alloc::Global;
+use std::marker::Model;
 
-/// What is read while the module of a design is made.
+/// What is read while the module of a design is made: a lowered design that keeps what it must, a name for the net
+/// of each signal, and what is counted once for all nodes and signals.
 #[derive(Drop)]
 pub struct Sheet<'a> {
-    pub design: &'a Design,
-    /// The names of the signals' nets.
-    pub names: &'a List<Word>,
+    pub(crate) design: &'a Design,
+    pub(crate) names: &'a List<Word>,
     /// The shapes of all expressions.
-    pub shapes: &'a [Shape],
+    shapes: List<Shape>,
     /// The numbers of all expressions' nets.
-    pub numbers: &'a [usize],
+    numbers: List<usize>,
+    /// Whether each signal is a port.
+    ports: List<bool>,
+    /// How the net of each signal is driven.
+    drives: List<Drive>,
+}
+
+impl<'a> Model for Sheet<'a> {
+    ghost use Rattle.lx_emit.specs.Plans.{Plan};
+
+    ghost Value = { Plan };
+
+    ghost use Rattle.lx_emit.specs.Sheets.{plan_of, IsSheet};
+
+    ghost view = { plan_of };
+
+    ghost invariant = { IsSheet };
 }
 
 /// Whether an expression has a net of its own, as every operator and slice has.
@@ -39,7 +64,8 @@ pub fn has_net(node: &Expr) -> bool
         | Expr::Cat(_)
         | Expr::Pick { .. }
         | Expr::Replicate { .. }
-        | Expr::Slice { .. } => true,
+        | Expr::Slice { .. }
+        | Expr::Fetch { .. } => true,
     }
 }
 
@@ -91,21 +117,86 @@ pub fn shapes(alloc: Global, design: &Design) -> Result<List<Shape>, NoMemory>
     Ok(shapes)
 }
 
+impl<'a> Sheet<'a> {
+    /// The sheet of a lowered design.
+    pub fn new(
+        alloc: Global,
+        design: &'a Design,
+        names: &'a List<Word>,
+    ) -> Result<Sheet<'a>, NoMemory>
+        requires { CanBeEmitted design.now names.now }
+        ensures { IfOk result (λ sheet. sheet ≡ plan design.now names.now) }
+    {
+        let shapes = shapes(alloc, design)?;
+        let numbers = numbers(alloc, design)?;
+        let ports = marks(alloc, design)?;
+        let drives = drives(alloc, design, ports.as_slice())?;
+        Ok(Sheet {
+            design,
+            names,
+            shapes,
+            numbers,
+            ports,
+            drives,
+        })
+    }
+}
+
 /// The name of a signal's net.
-#[tactic(auto, using(crate::proofs::Operands::name_is))]
 pub fn net_name(alloc: Global, sheet: &Sheet, x: SigId) -> Result<Word, NoMemory>
-    requires sheet { IsSheet sheet.now }
-    requires signal { x.0 < length sheet.now.design.now.signals }
-    ensures { IfOk result (λ word. word ≡ net sheet.now.names.now x.0) }
+    requires { x.0 < length sheet.now.design.signals }
+    ensures { IfOk result (λ word. word ≡ net_in sheet.now x.0) }
 {
     sheet.names.at(x.0).copied(alloc)
 }
 
+/// The name of a memory.
+pub fn memory_name(alloc: Global, sheet: &Sheet, k: usize) -> Result<Word, NoMemory>
+    requires { k < length sheet.now.design.memories }
+    ensures { IfOk result (λ word. word ≡ memory_in sheet.now k) }
+{
+    let before = sheet.names.len() - sheet.design.memories.len();
+    sheet.names.at(before + k).copied(alloc)
+}
+
 /// The shape of a signal.
-#[tactic(auto, using(crate::proofs::Shaped::signal_shape_is))]
 pub fn shape_of_signal(sheet: &Sheet, x: SigId) -> Shape
-    requires { x.0 < length sheet.now.design.now.signals }
-    ensures { result ≡ shapes sheet.now.design.now x.0 }
+    requires { x.0 < length sheet.now.design.signals }
+    ensures { result ≡ shapes sheet.now.design x.0 }
 {
     sheet.design.signals.at(x.0).shape
+}
+
+/// The shape of an expression.
+pub fn shape_at(sheet: &Sheet, id: ExprId) -> Shape
+    requires { id.place < length sheet.now.design.exprs }
+    ensures { result ≡ nodes.node_shape sheet.now.design id.place }
+{
+    *sheet.shapes.at(id.place)
+}
+
+/// The number of an expression's net.
+pub fn number_at(sheet: &Sheet, id: ExprId) -> usize
+    requires { id.place < length sheet.now.design.exprs }
+    ensures { result ≡ nets_before sheet.now.design.exprs id.place }
+{
+    *sheet.numbers.at(id.place)
+}
+
+/// Whether a signal is a port, or a domain's reset.
+pub fn is_port(sheet: &Sheet, x: SigId) -> bool
+    requires { x.0 < length sheet.now.design.signals }
+    ensures { result ≡ is_port sheet.now.design x.0 }
+{
+    *sheet.ports.at(x.0)
+}
+
+/// How the net of a signal is driven.
+pub fn drive_of<'a>(sheet: &'a Sheet<'_>, x: SigId) -> &'a Drive
+    requires { x.0 < length sheet.now.design.signals }
+    ensures drive { drive_of result.now ≡ drive sheet.now.design x.0 }
+    ensures there { IsThere sheet.now.design (drive_of result.now) }
+    ensures plain { IsPlainDrive sheet.now.design (drive_of result.now) }
+{
+    sheet.drives.at(x.0)
 }

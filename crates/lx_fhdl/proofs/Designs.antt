@@ -1,14 +1,16 @@
 -- What follows from what a design keeps: shapes are small, and values fit.
-use Rattle.std.proofs.Common.{◌≡◌, ℕ, ◌<◌, ◌≤◌, false, List, [], ◌∷◌, length, sym, subst, arith, inl, inr, suc, zero}
+use Rattle.std.proofs.Common.{◌≡◌, ℕ, ◌<◌, ◌≤◌, false, List, [], ◌∷◌, length, sym, subst, arith, suc, zero}
 use Rattle.std.specs.Prelude.{Some, None, map, slice_get, slice_index_or}
-use Rattle.std.proofs.lemmas.Bool.{cases_lt}
 use Rattle.std.proofs.lemmas.Option.{slice_get_within}
-use Rattle.lx_num.specs.Ints.{Fits}
+use Rattle.lx_num.specs.Ints.{Fits, unsigned}
 use Rattle.lx_arena.specs.Lower.{EachLower}
+use Rattle.lx_arena.proofs.Places.{by_places, lower_at}
 use Rattle.lx_circuit.specs.Terms.{Term}
-use Rattle.lx_circuit.specs.Shapes.{Shapes, shape_of, fault_of, faults_of, or_else, joined, bits_sum, shapes_of, unary_shape, too_wide, binary_fault, replicate_fault, slice_fault, pick_fault}
-use Rattle.lx_circuit.specs.Values.{Values, value_of}
-use Rattle.lx_circuit.specs.Circuit.{Made, nothing, IsMade, KeepsShapes, Step, StepsFit, InputsFit, IsView}
+use Rattle.lx_circuit.specs.Shapes.{Shapes, shape_of, fault_of, faults_of, or_else, joined, bits_sum, shapes_of, unary_shape, too_wide, binary_fault, replicate_fault, slice_fault, pick_fault, constant_fault}
+use Rattle.lx_circuit.specs.Places.{Values, At}
+use Rattle.lx_circuit.specs.Values.{value_of}
+use Rattle.lx_circuit.specs.Circuit.{Made, nothing, Step, IsView}
+use Rattle.lx_circuit.specs.Fitting.{IsMade, KeepsShapes, StepsFit, InputsFit}
 use Rattle.lx_circuit.proofs.Fitting.{view_fits}
 use Rattle.lx_fhdl.specs.Below.{ExprId, expr_below}
 use Rattle.lx_fhdl.specs.Nodes.{IsSmall, EachPlace, EachChild, HasParts}
@@ -18,10 +20,10 @@ use Rattle.lx_fhdl.specs.Designs.{made_of, circuit_of, shapes}
 use Rattle.lx_fhdl.specs.Keeping.{EachOf, IsSignal, Keeps}
 use Rattle.lx_fhdl.specs.Laws.{AllFit}
 use Rattle.lx_fhdl.specs.declared.exprs.Expr.{Expr}
-use Rattle.lx_fhdl.specs.declared.exprs.Expr.TheVariants.{Const, Sig, Unary, Binary, Mux, Cat, Pick, Replicate, Slice}
+use Rattle.lx_fhdl.specs.declared.exprs.Expr.TheVariants.{Const, Sig, Unary, Binary, Mux, Cat, Pick, Replicate, Slice, Fetch}
 use Rattle.lx_fhdl.specs.declared.design.Signal.{Signal}
 use Rattle.lx_fhdl.specs.declared.design.Design.{Design}
-use Rattle.lx_fhdl.proofs.Arena.{each_child, lower_at, node_there}
+use Rattle.lx_fhdl.proofs.Arena.{each_child}
 use Rattle.lx_fhdl.proofs.Fitting.{fits_zero}
 use Rattle.lx_fhdl.proofs.Operators.{none_left, none_right}
 use Rattle.lx_fhdl.proofs.Trees.{term_at-is}
@@ -73,12 +75,12 @@ no_child_fault s t (Binary op left right) e =
     let own = binary_fault op (shape_of s (t left.place)) (shape_of s (t right.place)) in
     let later = none_right (fault_of s (t left.place)) (or_else (fault_of s (t right.place)) own) e in
     (none_left (fault_of s (t left.place)) (or_else (fault_of s (t right.place)) own) e, none_left (fault_of s (t right.place)) own later)
-no_child_fault s t (Mux cond so other) e =
-    let own = too_wide (joined (shape_of s (t so.place)) (shape_of s (t other.place))).bits in
-    let later = or_else (fault_of s (t other.place)) own in
-    let first = none_right (fault_of s (t cond.place)) (or_else (fault_of s (t so.place)) later) e in (
-      none_left (fault_of s (t cond.place)) (or_else (fault_of s (t so.place)) later) e,
-      (none_left (fault_of s (t so.place)) later first, none_left (fault_of s (t other.place)) own (none_right (fault_of s (t so.place)) later first)),
+no_child_fault s t (Mux cond then_ else_) e =
+    let own = too_wide (joined (shape_of s (t then_.place)) (shape_of s (t else_.place))).bits in
+    let later = or_else (fault_of s (t else_.place)) own in
+    let first = none_right (fault_of s (t cond.place)) (or_else (fault_of s (t then_.place)) later) e in (
+      none_left (fault_of s (t cond.place)) (or_else (fault_of s (t then_.place)) later) e,
+      (none_left (fault_of s (t then_.place)) later first, none_left (fault_of s (t else_.place)) own (none_right (fault_of s (t then_.place)) later first)),
     )
 no_child_fault s t (Cat parts) e = no_faults_at s t parts (none_left (faults_of s (terms_at t parts)) (too_wide (bits_sum (shapes_of s (terms_at t parts)))) e)
 no_child_fault s t (Pick items index) e =
@@ -87,12 +89,13 @@ no_child_fault s t (Pick items index) e =
     (no_faults_at s t items (none_left (faults_of s (terms_at t items)) later e), none_left (fault_of s (t index.place)) own (none_right (faults_of s (terms_at t items)) later e))
 no_child_fault s t (Replicate of count) e = none_left (fault_of s (t of.place)) (replicate_fault (shape_of s (t of.place)) count) e
 no_child_fault s t (Slice of low high) e = none_left (fault_of s (t of.place)) (slice_fault (shape_of s (t of.place)) low high) e
+no_child_fault s t (Fetch memory width at) e = none_left (fault_of s (t at.place)) (constant_fault (unsigned width)) e
 
 -- ---- expressions
 
 -- a fact of all places below that of a node is one of its children
 pub children_of : (P : ℕ → Type 0) (xs : List Expr) → EachLower expr_below xs → (k : ℕ) (x : Expr) → slice_get xs k ≡ Some x → ((j : ℕ) → j < k → P j) → EachChild P x
-children_of P xs l k x e h = each_child P k x h (lower_at xs l k x e)
+children_of P xs l k x e h = each_child P k x h (lower_at expr_below xs l k x e)
 
 all_parts : (t : ℕ → Term) (is : List ExprId) → EachPlace (λ j. HasAllParts (t j)) is → HaveAllParts (terms_at t is)
 all_parts t [] h = tt
@@ -107,50 +110,39 @@ node_parts t (Const value bits signed) p h = tt
 node_parts t (Sig x) p h = tt
 node_parts t (Unary op of) p h = h
 node_parts t (Binary op left right) p h = h
-node_parts t (Mux cond so other) p h = h
+node_parts t (Mux cond then_ else_) p h = h
 node_parts t (Cat parts) p h = (some_parts t parts p, all_parts t parts h)
 node_parts t (Pick items index) p h = (some_parts t items p, (all_parts t items h.0, h.1))
 node_parts t (Replicate of count) p h = h
 node_parts t (Slice of low high) p h = h
-
-parts_below : (d : Design) → Keeps d → (n : ℕ) → n ≤ length d.exprs → (k : ℕ) → k < n → HasAllParts (design.term d k)
-parts_below d p zero h k q = absurd (omega arith)
-parts_below d p (suc n) h k q =
-    elim (cases_lt k n) [
-      | inl r ↦ parts_below d p n (omega arith) k r
-      | inr r ↦
-          let e : n ≡ k = omega arith in
-          let within : n < length d.exprs = omega arith in
-          let (x, found) = node_there d.exprs n within in
-          let own : HasAllParts (node_term (term_at d.exprs) x) =
-          node_parts (term_at d.exprs) x (p.parts n x found) (children_of (λ j. HasAllParts (term_at d.exprs j)) d.exprs p.exprs_lower n x found (λ j i. parts_below d p n (omega arith) j i)) in
-          subst (λ (j : ℕ). HasAllParts (term_at d.exprs j)) e (subst (λ (t : Term). HasAllParts t) (sym (term_at-is d.exprs p.exprs_lower n x found)) own)
-    ]
+node_parts t (Fetch memory width at) p h = h
 
 -- each Cat and each Pick in the tree at a place has a part
 pub term_parts : (d : Design) → Keeps d → (k : ℕ) → k < length d.exprs → HasAllParts (design.term d k)
-term_parts d p k h = parts_below d p (length d.exprs) (omega arith) k h
+term_parts d p = by_places (λ k. HasAllParts (design.term d k)) d.exprs (λ k x found below.
+    subst (λ (t : Term). HasAllParts t) (sym (term_at-is d.exprs p.arenas.exprs_lower k x found))
+    (node_parts (term_at d.exprs) x (p.arenas.parts k x found) (children_of (λ j. HasAllParts (term_at d.exprs j)) d.exprs p.arenas.exprs_lower k x found below)))
 
 -- the children of a node are there, and have no fault
 pub children_there : (d : Design) → Keeps d → (k : ℕ) (x : Expr) → slice_get d.exprs k ≡ Some x → EachChild (λ j. j < length d.exprs) x
 children_there d p k x e =
     let h = slice_get_within d.exprs k x e in
-    children_of (λ j. j < length d.exprs) d.exprs p.exprs_lower k x e (λ j i. omega arith)
+    children_of (λ j. j < length d.exprs) d.exprs p.arenas.exprs_lower k x e (λ j i. omega arith)
 
 pub children_sound : (d : Design) → Keeps d → (k : ℕ) (x : Expr) → slice_get d.exprs k ≡ Some x → EachChild (λ j. fault_of (shapes d) (design.term d j) ≡ None) x
 children_sound d p k x e =
     let h = slice_get_within d.exprs k x e in
-    children_of (λ j. fault_of (shapes d) (design.term d j) ≡ None) d.exprs p.exprs_lower k x e (λ j i. p.shaped j (omega arith))
+    children_of (λ j. fault_of (shapes d) (design.term d j) ≡ None) d.exprs p.arenas.exprs_lower k x e (λ j i. p.arenas.shaped j (omega arith))
 
 -- every expression has 1 to 127 bits
 pub term_small : (d : Design) → Keeps d → (k : ℕ) → k < length d.exprs → IsSmall (shape_of (shapes d) (design.term d k))
-term_small d p k h = tree_small (shapes d) (signal_small d p) (design.term d k) (term_parts d p k h) (p.shaped k h)
+term_small d p k h = tree_small (shapes d) (signal_small d p) (design.term d k) (term_parts d p k h) (p.arenas.shaped k h)
 
 -- its value fits them, where those of all signals fit
-pub term_fits : (d : Design) → Keeps d → (v : Values) → ((x : ℕ) → Fits (shapes d x) (v x)) → (k : ℕ) → k < length d.exprs → Fits (shape_of (shapes d) (design.term d k)) (value_of (shapes d) v (design.term d k))
-term_fits d p v f k h = tree_fits (shapes d) v (signal_small d p) f (design.term d k) (term_parts d p k h) (p.shaped k h)
+pub term_fits : (d : Design) → Keeps d → (v : Values) → ((x : ℕ) → Fits (shapes d x) (v (At x))) → (k : ℕ) → k < length d.exprs → Fits (shape_of (shapes d) (design.term d k)) (value_of (shapes d) v (design.term d k))
+term_fits d p v f k h = tree_fits (shapes d) v (signal_small d p) f (design.term d k) (term_parts d p k h) (p.arenas.shaped k h)
 
 pub all_fit : (d : Design) → Keeps d → (steps : List Step) (inputs : Values) → StepsFit (circuit_of d) steps → InputsFit (circuit_of d) inputs → (v : Values) → IsView (circuit_of d) steps inputs v → AllFit d v
 all_fit d p steps inputs f i v w =
-    let signals = view_fits (circuit_of d) (keeps_shapes d p) steps inputs f i v w in
-    record { signals = signals; small = term_small d p; exprs = term_fits d p v signals }
+    let places = view_fits (circuit_of d) (keeps_shapes d p) steps inputs f i v w in
+    record { places = places; small = term_small d p; exprs = term_fits d p v places.signals }

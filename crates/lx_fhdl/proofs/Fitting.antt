@@ -3,7 +3,7 @@ use Rattle.std.proofs.Common.{◌≡◌, ℕ, ◌+◌, ◌-◌, ◌*◌, ◌/◌
 use Rattle.std.specs.Prelude.{ℤ, pos, negsuc, ◌+ℤ◌, ◌-ℤ◌, ◌*ℤ◌, bit_and, bit_or, bit_xor}
 use Rattle.std.specs.Int.RustNames.{unsigned_abs}
 use Rattle.std.proofs.Math.Nat.{pow-le-pow_right, two-pow-succ}
-use Rattle.std.proofs.lemmas.Bool.{false≢true, cond_both}
+use Rattle.std.proofs.lemmas.Bool.{false≢true, cond_both, or_left, or_right}
 use Rattle.std.proofs.lemmas.Int.{ints, unsigned_abs-mul}
 use Rattle.std.proofs.lemmas.Nat.{pow_pos, pow_below, pow-add, mul-le, mul-lt, mul-add-lt, shl_below, shr_le, or_lt, xor_lt, and_le_l}
 use borrow.Author.Differences.{up, down}
@@ -32,22 +32,15 @@ fits_joined n false true z h f = fits_as_signed n z f
 fits_joined n true true z h f = fits_wider n (n + 0) true z (omega arith) f
 fits_joined n true false z h f = absurd (false≢true (h refl))
 
-or_left_true : (s t : Bool) → s ≡ true → (s || t) ≡ true
-or_left_true s t e = ap (λ (b : Bool). b || t) e
-
-or_right_true : (s t : Bool) → t ≡ true → (s || t) ≡ true
-or_right_true true t e = refl
-or_right_true false t e = e
-
 pub fits_left : (a b : Shape) (x : ℤ) → Fits a x → Fits (joined a b) x
 fits_left a b x f =
     fits_wider (joined_bits (a.signed || b.signed) a) (joined a b).bits (a.signed || b.signed) x (omega arith)
-    (fits_joined a.bits a.signed (a.signed || b.signed) x (or_left_true a.signed b.signed) f)
+    (fits_joined a.bits a.signed (a.signed || b.signed) x (or_left a.signed b.signed) f)
 
 pub fits_right : (a b : Shape) (y : ℤ) → Fits b y → Fits (joined a b) y
 fits_right a b y f =
     fits_wider (joined_bits (a.signed || b.signed) b) (joined a b).bits (a.signed || b.signed) y (omega arith)
-    (fits_joined b.bits b.signed (a.signed || b.signed) y (or_right_true a.signed b.signed) f)
+    (fits_joined b.bits b.signed (a.signed || b.signed) y (or_right a.signed b.signed) f)
 
 last_power : (m : ℕ) → 2 ^ (m + 1 - 1) ≡ 2 ^ m
 last_power m = ap (λ (k : ℕ). 2 ^ k) (omega arith)

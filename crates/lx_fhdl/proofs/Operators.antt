@@ -2,7 +2,7 @@
 use Rattle.std.proofs.Common.{◌≡◌, ℕ, ◌+◌, ◌-◌, ◌^◌, ◌≤◌, Bool, true, false, cond, not, ◌||◌, refl, ap, subst, arith}
 use Rattle.std.specs.Prelude.{ℤ, pos, Option, Some, None, ◌*ℤ◌, int_lt, nat_le, min}
 use Rattle.std.specs.Ordering.{int_eq}
-use Rattle.std.proofs.lemmas.Bool.{leb-true}
+use Rattle.std.proofs.lemmas.Bool.{leb-true, or_right}
 use Rattle.std.proofs.lemmas.Nat.{pow_pos}
 use Rattle.lx_num.specs.declared.Shape.{Shape}
 use Rattle.lx_num.specs.Ints.{FitsBits, Fits, shape}
@@ -15,7 +15,6 @@ use Rattle.lx_circuit.specs.Values.{unary_value, binary_value, count_of}
 use Rattle.lx_fhdl.specs.Nodes.{IsSmall}
 use Rattle.lx_fhdl.proofs.Fitting.{fits_left, fits_right, fits_joined, fits_sum, fits_difference, fits_negation, fits_product, fits_and, fits_or, fits_xor, fits_flag, fits_not_signed, fits_not_unsigned, fits_floor, fits_left_shift, fits_zero, count_below}
 use Rattle.lx_num.proofs.Ranges.{fits_wider}
-use Rattle.lx_circuit.proofs.Cases.{or_true_right}
 
 pub none_left : (f g : Option WidthFault) → or_else f g ≡ None → f ≡ None
 none_left (Some w) g e = e
@@ -57,7 +56,7 @@ fits_mul : (a b : Shape) (x y : ℤ) → IsSmall a → IsSmall b → Fits a x �
 fits_mul a b x y p q f g =
     fits_product (joined_bits (a.signed || b.signed) a) (joined_bits (a.signed || b.signed) b) (a.signed || b.signed) x y (omega (arith, p.some)) (omega (arith, q.some))
     (fits_joined a.bits a.signed (a.signed || b.signed) x (λ e. ap (λ (s : Bool). s || b.signed) e) f)
-    (fits_joined b.bits b.signed (a.signed || b.signed) y (λ e. or_true_right a.signed b.signed e) g)
+    (fits_joined b.bits b.signed (a.signed || b.signed) y (λ e. or_right a.signed b.signed e) g)
 
 pub binary_fits : (op : Op) (a b : Shape) (x y : ℤ) → IsSmall a → IsSmall b → binary_fault op a b ≡ None → Fits a x → Fits b y → Fits (binary_shape op a b) (binary_value op x y)
 binary_fits Add a b x y p q e f g = fits_sum (joined a b).bits (joined a b).signed x y (joined_some a b p) (fits_left a b x f) (fits_right a b y g)

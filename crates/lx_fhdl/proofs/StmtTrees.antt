@@ -1,29 +1,20 @@
 -- The target and the statement at a place are made of those at the places of their parts.
-use Rattle.std.proofs.Common.{◌≡◌, ℕ, ◌<◌, Bool, true, List, [], ◌∷◌, Option, Some, None, refl, sym, ◌∙◌, ap, arith, suc, zero, nat_lt}
-use Rattle.std.specs.Prelude.{slice_get, IfSome, IsTrue}
+use Rattle.std.proofs.Common.{◌≡◌, ℕ, true, List, [], ◌∷◌, ◌++◌, length, Some, refl, ◌∙◌, ap, nat_lt}
+use Rattle.std.specs.Prelude.{slice_get}
 use Rattle.std.proofs.lemmas.Bool.{ltb-true, and_parts}
 use Rattle.lx_arena.specs.Lower.{EachLower}
+use Rattle.lx_arena.specs.Folds.{Same, IsLocal, Added}
+use Rattle.lx_arena.proofs.Folds.{fold_at-is, added_by}
 use Rattle.lx_circuit.specs.Terms.{Term}
 use Rattle.lx_circuit.specs.Statements as tree
 use Rattle.lx_fhdl.specs.Below.{TargetId, StmtId, all_targets_below, target_below, all_stmts_below, all_branches_below, all_arms_below, stmt_below}
-use Rattle.lx_fhdl.specs.Stmts.{targets_at, node_target, target_of, target_within, target_at, block_at, branches_at, arms_at, node_stmt, stmt_of, stmt_within, stmt_at}
+use Rattle.lx_fhdl.specs.Stmts.{targets_at, node_target, no_target, target_at, block_at, branches_at, arms_at, node_stmt, no_stmt, stmt_at}
 use Rattle.lx_fhdl.specs.declared.stmts.Target.{Target}
 use Rattle.lx_fhdl.specs.declared.stmts.Target.TheVariants as target
 use Rattle.lx_fhdl.specs.declared.stmts.Branch.{Branch}
 use Rattle.lx_fhdl.specs.declared.stmts.Arm.{Arm}
 use Rattle.lx_fhdl.specs.declared.stmts.Stmt.{Stmt}
 use Rattle.lx_fhdl.specs.declared.stmts.Stmt.TheVariants as stmt
-
--- two families of trees that agree below n
-abbrev Same : {T : Type 0} → (ℕ → T) → (ℕ → T) → ℕ → Type 0
-Same f g n = (k : ℕ) → k < n → f k ≡ g k
-
-pub lower_at : {T : Type 0} (below : T → ℕ → Bool) (xs : List T) → EachLower below xs → (k : ℕ) (x : T) → slice_get xs k ≡ Some x → below x k ≡ true
-lower_at {T} below xs l k x e = at_some (slice_get xs k) e (l k)
-  where
-    at_some : (o : Option T) → o ≡ Some x → IfSome o (λ y. IsTrue (below y k)) → below x k ≡ true
-    at_some (Some y) e h = let p : y ≡ x = cc in ap (λ (z : T). below z k) (sym p) ∙ search h
-    at_some None e h = absurd (cc)
 
 -- ---- targets
 
@@ -40,23 +31,17 @@ node_target_same t f g n (target.Part x low len) h e = refl
 node_target_same t f g n (target.Cat parts) h e = ap tree.CatTarget (targets_same f g n parts h e)
 node_target_same t f g n (target.Pick items index) h e = ap (λ (a : tree.Targets). tree.PickTarget a (t index.place)) (targets_same f g n items h e)
 
-target_same : (t : ℕ → Term) (f g : ℕ → tree.Target) (n : ℕ) (o : Option Target) → Same f g n → IfSome o (λ x. IsTrue (target_below x n)) → target_of t f o ≡ target_of t g o
-target_same t f g n (Some x) h e = node_target_same t f g n x h (search e)
-target_same t f g n None h e = refl
-
--- how much deeper the look goes makes no difference
-target_deeper : (t : ℕ → Term) (xs : List Target) → EachLower target_below xs → (n m k : ℕ) → k < n → k < m → target_within t xs n k ≡ target_within t xs m k
-unfolding target_within
-target_deeper t xs l zero m k p q = absurd (omega arith)
-target_deeper t xs l (suc n) zero k p q = absurd (omega arith)
-target_deeper t xs l (suc n) (suc m) k p q =
-    target_same t (target_within t xs n) (target_within t xs m) k (slice_get xs k) (λ j h. target_deeper t xs l n m j (omega arith) (omega arith)) (l k)
+pub target_local : (t : ℕ → Term) → IsLocal target_below (node_target t)
+target_local t = record { same = node_target_same t }
 
 pub target_at-is : (t : ℕ → Term) (xs : List Target) → EachLower target_below xs → (k : ℕ) (x : Target) → slice_get xs k ≡ Some x → target_at t xs k ≡ node_target t (target_at t xs) x
-unfolding target_at target_within
-target_at-is t xs l k x e =
-    ap (target_of t (target_within t xs k)) e
-    ∙ node_target_same t (target_within t xs k) (target_at t xs) k x (λ j h. target_deeper t xs l k (suc j) j h (omega arith)) (lower_at target_below xs l k x e)
+unfolding target_at
+target_at-is t xs low k x e = fold_at-is target_below no_target (node_target t) (target_local t) xs low k x e
+
+-- a node that is pushed
+pub target_added : (t : ℕ → Term) (old : List Target) (x : Target) → EachLower target_below (old ++ x ∷ []) → target_below x (length old) ≡ true → Added (target_at t) (node_target t) old (old ++ x ∷ []) (length old) x
+unfolding target_at
+target_added t old x low h = added_by target_below no_target (node_target t) (target_local t) old x low h
 
 -- ---- statements
 
@@ -92,19 +77,14 @@ node_stmt_same t w f g n (stmt.Case on arms rest line) h e =
     ap (λ (bs : tree.Arms). tree.Case (t on.place) bs (block_at f rest)) (arms_same f g n arms h p.0)
     ∙ ap (tree.Case (t on.place) (arms_at g arms)) (block_same f g n rest h p.1)
 
-stmt_same : (t : ℕ → Term) (w : ℕ → tree.Target) (f g : ℕ → tree.Stmt) (n : ℕ) (o : Option Stmt) → Same f g n → IfSome o (λ x. IsTrue (stmt_below x n)) → stmt_of t w f o ≡ stmt_of t w g o
-stmt_same t w f g n (Some x) h e = node_stmt_same t w f g n x h (search e)
-stmt_same t w f g n None h e = refl
-
-stmt_deeper : (t : ℕ → Term) (w : ℕ → tree.Target) (xs : List Stmt) → EachLower stmt_below xs → (n m k : ℕ) → k < n → k < m → stmt_within t w xs n k ≡ stmt_within t w xs m k
-unfolding stmt_within
-stmt_deeper t w xs l zero m k p q = absurd (omega arith)
-stmt_deeper t w xs l (suc n) zero k p q = absurd (omega arith)
-stmt_deeper t w xs l (suc n) (suc m) k p q =
-    stmt_same t w (stmt_within t w xs n) (stmt_within t w xs m) k (slice_get xs k) (λ j h. stmt_deeper t w xs l n m j (omega arith) (omega arith)) (l k)
+pub stmt_local : (t : ℕ → Term) (w : ℕ → tree.Target) → IsLocal stmt_below (node_stmt t w)
+stmt_local t w = record { same = node_stmt_same t w }
 
 pub stmt_at-is : (t : ℕ → Term) (w : ℕ → tree.Target) (xs : List Stmt) → EachLower stmt_below xs → (k : ℕ) (x : Stmt) → slice_get xs k ≡ Some x → stmt_at t w xs k ≡ node_stmt t w (stmt_at t w xs) x
-unfolding stmt_at stmt_within
-stmt_at-is t w xs l k x e =
-    ap (stmt_of t w (stmt_within t w xs k)) e
-    ∙ node_stmt_same t w (stmt_within t w xs k) (stmt_at t w xs) k x (λ j h. stmt_deeper t w xs l k (suc j) j h (omega arith)) (lower_at stmt_below xs l k x e)
+unfolding stmt_at
+stmt_at-is t w xs low k x e = fold_at-is stmt_below no_stmt (node_stmt t w) (stmt_local t w) xs low k x e
+
+-- a node that is pushed
+pub stmt_added : (t : ℕ → Term) (w : ℕ → tree.Target) (old : List Stmt) (x : Stmt) → EachLower stmt_below (old ++ x ∷ []) → stmt_below x (length old) ≡ true → Added (stmt_at t w) (node_stmt t w) old (old ++ x ∷ []) (length old) x
+unfolding stmt_at
+stmt_added t w old x low h = added_by stmt_below no_stmt (node_stmt t w) (stmt_local t w) old x low h

@@ -1,19 +1,18 @@
 -- A tree without a fault has a small shape, and its value fits it.
-use Rattle.std.proofs.Common.{◌≡◌, ℕ, ◌-◌, ◌^◌, ◌<◌, ◌≤◌, Bool, true, false, ◌||◌, List, [], ◌∷◌, refl, ap, arith, zero, suc}
-use Rattle.std.specs.Prelude.{ℤ, pos, None}
-use Rattle.std.proofs.lemmas.Nat.{pow_pos, pow-add, mul-add-lt}
-use Rattle.lx_num.specs.declared.Shape.{Shape}
-use Rattle.lx_num.specs.Ints.{modulo, FitsBits, Fits}
-use Rattle.lx_num.proofs.Ints.{modulo-below}
-use Rattle.lx_num.proofs.Ranges.{fits_pos, fits_wider, FitsBits-wrap_bits}
+use Rattle.std.proofs.Common.{◌≡◌, ℕ, ◌-◌, ◌<◌, false, length, arith}
+use Rattle.std.specs.Prelude.{pos, None}
+use Rattle.lx_num.specs.Ints.{Fits, unsigned}
+use Rattle.lx_num.proofs.Ranges.{fits_pos, FitsBits-wrap_bits}
 use Rattle.lx_circuit.specs.Terms as term
 use Rattle.lx_circuit.specs.Terms.{Term, Terms, NoTerm, MoreTerms}
-use Rattle.lx_circuit.specs.Shapes.{Shapes, shape_of, shapes_of, fault_of, faults_of, joined, joined_bits, bits_sum, some_signed, widest, pick_shape, unary_shape, too_wide, or_else, index_fault, binary_fault, replicate_fault, slice_fault, pick_fault}
-use Rattle.lx_circuit.specs.Values.{Values, value_of, values_of, cat_pattern, nth_or_last, count_of}
+use Rattle.lx_circuit.specs.Shapes.{Shapes, shape_of, shapes_of, fault_of, faults_of, joined, bits_sum, some_signed, widest, pick_shape, unary_shape, too_wide, or_else, index_fault, binary_fault, replicate_fault, slice_fault, pick_fault, constant_fault}
+use Rattle.lx_circuit.specs.Places.{Values, At, Word}
+use Rattle.lx_circuit.specs.Values.{value_of, values_of, cat_pattern, count_of}
 use Rattle.lx_fhdl.specs.Keeping.{EachOf}
 use Rattle.lx_fhdl.specs.Nodes.{IsSmall}
+use Rattle.lx_fhdl.proofs.Items.{EachFits, sum_some, widest_some, cat_below, items_fit}
 use Rattle.lx_fhdl.proofs.Arena.{constant_small, replicate_small, slice_inside}
-use Rattle.lx_fhdl.proofs.Fitting.{fits_joined, fits_copies, fits_field, fits_mux, fits_zero}
+use Rattle.lx_fhdl.proofs.Fitting.{fits_copies, fits_field, fits_mux, fits_zero}
 use Rattle.lx_fhdl.proofs.Operators.{binary_fits, binary_small, unary_fits, unary_some, joined_some, not_wide, none_left, none_right}
 
 abbrev pub IsSome : Terms → Type 0
@@ -32,6 +31,7 @@ abbrev mutual
   HasAllParts (term.Replicate a count) = HasAllParts a
   HasAllParts (term.Slice a low high) = HasAllParts a
   HasAllParts (term.Pick items index) = IsSome items × (HaveAllParts items × HasAllParts index)
+  HasAllParts (term.Fetch memory width at) = HasAllParts at
 
   pub HaveAllParts : Terms → Type 0
   HaveAllParts NoTerm = Unit {0}
@@ -42,13 +42,10 @@ SmallSignals s = (x : ℕ) → IsSmall (s x)
 
 -- ---- shapes
 
-sum_some : (s : Shapes) (ts : Terms) → IsSome ts → EachOf IsSmall (shapes_of s ts) → 1 ≤ bits_sum (shapes_of s ts)
-sum_some s NoTerm h e = absurd h
-sum_some s (MoreTerms t ts) h e = omega (arith, e.0.some)
-
-widest_some : (s : Shapes) (some : Bool) (ts : Terms) → IsSome ts → EachOf IsSmall (shapes_of s ts) → 1 ≤ widest some (shapes_of s ts)
-widest_some s some NoTerm h e = absurd h
-widest_some s some (MoreTerms t ts) h e = omega (arith, e.0.some)
+-- so has the list of its shapes
+some_shapes : (s : Shapes) (ts : Terms) → IsSome ts → 0 < length (shapes_of s ts)
+some_shapes s NoTerm h = absurd h
+some_shapes s (MoreTerms t ts) h = omega arith
 
 mutual
   -- a tree without a fault has 1 to 127 bits
@@ -78,7 +75,7 @@ mutual
   tree_small s m (term.Cat parts) h e =
       let own = too_wide (bits_sum (shapes_of s parts)) in
       record {
-        some = sum_some s parts h.0 (trees_small s m parts h.1 (none_left (faults_of s parts) own e));
+        some = sum_some (shapes_of s parts) (some_shapes s parts h.0) (trees_small s m parts h.1 (none_left (faults_of s parts) own e));
         most = not_wide (bits_sum (shapes_of s parts)) (none_right (faults_of s parts) own e);
       }
   tree_small s m (term.Replicate a count) h e =
@@ -95,9 +92,10 @@ mutual
       let later = none_right (faults_of s items) (or_else (fault_of s index) own) e in
       let wide = none_right (index_fault (shape_of s index)) (too_wide (pick_shape (shapes_of s items)).bits) (none_right (fault_of s index) own later) in
       record {
-        some = widest_some s (some_signed (shapes_of s items)) items h.0 (trees_small s m items h.1.0 (none_left (faults_of s items) (or_else (fault_of s index) own) e));
+        some = widest_some (some_signed (shapes_of s items)) (shapes_of s items) (some_shapes s items h.0) (trees_small s m items h.1.0 (none_left (faults_of s items) (or_else (fault_of s index) own) e));
         most = not_wide (pick_shape (shapes_of s items)).bits wide;
       }
+  tree_small s m (term.Fetch memory width at) h e = constant_small (unsigned width) (none_right (fault_of s at) (constant_fault (unsigned width)) e)
 
   pub trees_small : (s : Shapes) → SmallSignals s → (ts : Terms) → HaveAllParts ts → faults_of s ts ≡ None → EachOf IsSmall (shapes_of s ts)
   trees_small s m NoTerm h e = tt
@@ -108,44 +106,9 @@ mutual
 
 -- ---- values
 
-cat_below : (as_ : List Shape) (zs : List ℤ) → cat_pattern as_ zs < 2 ^ bits_sum as_
-cat_below [] zs = omega arith
-cat_below (a ∷ as_) [] = pow_pos (bits_sum (a ∷ as_))
-cat_below (a ∷ as_) (z ∷ zs) =
-    let p = mul-add-lt (cat_pattern as_ zs) (2 ^ a.bits) (modulo z (2 ^ a.bits)) (2 ^ bits_sum as_) (cat_below as_ zs) (modulo-below z (2 ^ a.bits) (pow_pos a.bits)) in
-    omega (arith, p, pow-add 2 a.bits (bits_sum as_))
-
--- each number fits the shape of its place
-abbrev pub EachFits : List Shape → List ℤ → Type 0
-EachFits (a ∷ as_) (z ∷ zs) = Fits a z × EachFits as_ zs
-EachFits _ _ = Unit {0}
-
-or_left_true : (s t : Bool) → s ≡ true → (s || t) ≡ true
-or_left_true s t e = ap (λ (b : Bool). b || t) e
-
-or_right_true : (s t : Bool) → t ≡ true → (s || t) ≡ true
-or_right_true true t e = refl
-or_right_true false t e = e
-
-item_fits : (s : Shapes) (v : Values) (some : Bool) (w : ℕ) (t : Term) (ts : Terms) → widest some (shapes_of s (MoreTerms t ts)) ≤ w → (some_signed (shapes_of s (MoreTerms t ts)) ≡ true → some ≡ true) → Fits (shape_of s t) (value_of s v t) → FitsBits w some (value_of s v t)
-item_fits s v some w t ts h g f =
-    fits_wider (joined_bits some (shape_of s t)) w some (value_of s v t) (omega arith)
-    (fits_joined (shape_of s t).bits (shape_of s t).signed some (value_of s v t) (λ e. g (or_left_true (shape_of s t).signed (some_signed (shapes_of s ts)) e)) f)
-
-items_fit : (s : Shapes) (v : Values) (some : Bool) (w : ℕ) (ts : Terms) (z : ℤ) (n : ℕ) → FitsBits w some z → widest some (shapes_of s ts) ≤ w → (some_signed (shapes_of s ts) ≡ true → some ≡ true)
-    → EachFits (shapes_of s ts) (values_of s v ts) → FitsBits w some (nth_or_last z (values_of s v ts) n)
-items_fit s v some w NoTerm z n f h g k = f
-items_fit s v some w (MoreTerms t ts) z zero f h g k = item_fits s v some w t ts h g k.0
-items_fit s v some w (MoreTerms t ts) z (suc n) f h g k =
-    items_fit s v some w ts (value_of s v t) n
-    (item_fits s v some w t ts h g k.0)
-    (omega arith)
-    (λ e. g (or_right_true (shape_of s t).signed (some_signed (shapes_of s ts)) e))
-    k.1
-
 mutual
   -- the value of a tree without a fault fits its shape
-  pub tree_fits : (s : Shapes) (v : Values) → SmallSignals s → ((x : ℕ) → Fits (s x) (v x)) → (t : Term) → HasAllParts t → fault_of s t ≡ None → Fits (shape_of s t) (value_of s v t)
+  pub tree_fits : (s : Shapes) (v : Values) → SmallSignals s → ((x : ℕ) → Fits (s x) (v (At x))) → (t : Term) → HasAllParts t → fault_of s t ≡ None → Fits (shape_of s t) (value_of s v t)
   tree_fits s v m f (term.Constant value a) h e = FitsBits-wrap_bits a.bits a.signed value (constant_small a e).some
   tree_fits s v m f (term.Signal x) h e = f x
   tree_fits s v m f (term.Unary op a) h e =
@@ -173,10 +136,12 @@ mutual
       let own = pick_fault (shapes_of s items) (shape_of s index) in
       let some = some_signed (shapes_of s items) in
       let w = widest some (shapes_of s items) in
-      items_fit s v some w items (pos 0) (count_of (value_of s v index)) (fits_zero w some) (omega arith) (λ g. g)
+      items_fit some w (shapes_of s items) (values_of s v items) (pos 0) (count_of (value_of s v index)) (fits_zero w some) (omega arith) (λ g. g)
       (trees_fit s v m f items h.1.0 (none_left (faults_of s items) (or_else (fault_of s index) own) e))
+  tree_fits s v m f (term.Fetch memory width at) h e =
+      FitsBits-wrap_bits width false (v (Word memory (count_of (value_of s v at)))) (constant_small (unsigned width) (none_right (fault_of s at) (constant_fault (unsigned width)) e)).some
 
-  pub trees_fit : (s : Shapes) (v : Values) → SmallSignals s → ((x : ℕ) → Fits (s x) (v x)) → (ts : Terms) → HaveAllParts ts → faults_of s ts ≡ None → EachFits (shapes_of s ts) (values_of s v ts)
+  pub trees_fit : (s : Shapes) (v : Values) → SmallSignals s → ((x : ℕ) → Fits (s x) (v (At x))) → (ts : Terms) → HaveAllParts ts → faults_of s ts ≡ None → EachFits (shapes_of s ts) (values_of s v ts)
   trees_fit s v m f NoTerm h e = tt
   trees_fit s v m f (MoreTerms t ts) h e = (
     tree_fits s v m f t h.0 (none_left (fault_of s t) (faults_of s ts) e),

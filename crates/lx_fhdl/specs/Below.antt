@@ -3,7 +3,7 @@ use Rattle.std.specs.Prelude.{ℕ, Bool, true, List, [], ◌∷◌, ◌&&◌, na
 use Rattle.lx_arena.specs.declared.Id.{Id}
 use Rattle.lx_fhdl.specs.declared.exprs.InExprs.{InExprs}
 use Rattle.lx_fhdl.specs.declared.exprs.Expr.{Expr}
-use Rattle.lx_fhdl.specs.declared.exprs.Expr.TheVariants.{Const, Sig, Unary, Binary, Mux, Cat, Pick, Replicate, Slice}
+use Rattle.lx_fhdl.specs.declared.exprs.Expr.TheVariants.{Const, Sig, Unary, Binary, Mux, Cat, Pick, Replicate, Slice, Fetch}
 use Rattle.lx_fhdl.specs.declared.stmts.InTargets.{InTargets}
 use Rattle.lx_fhdl.specs.declared.stmts.InStmts.{InStmts}
 use Rattle.lx_fhdl.specs.declared.stmts.Target.{Target}
@@ -25,11 +25,12 @@ expr_below (Const value bits signed) n = true
 expr_below (Sig x) n = true
 expr_below (Unary op of) n = nat_lt of.place n
 expr_below (Binary op left right) n = nat_lt left.place n && nat_lt right.place n
-expr_below (Mux cond so other) n = nat_lt cond.place n && (nat_lt so.place n && nat_lt other.place n)
+expr_below (Mux cond then_ else_) n = nat_lt cond.place n && (nat_lt then_.place n && nat_lt else_.place n)
 expr_below (Cat parts) n = all_below n parts
 expr_below (Pick items index) n = all_below n items && nat_lt index.place n
 expr_below (Replicate of count) n = nat_lt of.place n
 expr_below (Slice of low high) n = nat_lt of.place n
+expr_below (Fetch memory width at) n = nat_lt at.place n
 
 abbrev pub TargetId : Type 0
 TargetId = Id InTargets

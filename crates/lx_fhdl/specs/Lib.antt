@@ -1,9 +1,13 @@
 pub mod Below
 pub mod Designs
+pub mod Drafts
+pub mod Extremes
 pub mod Instance
 pub mod Keeping
+pub mod Kept
 pub mod Laws
 pub mod Lowered
 pub mod Nodes
+pub mod Rows
 pub mod Stmts
 pub mod Trees

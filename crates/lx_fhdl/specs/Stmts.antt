@@ -1,6 +1,6 @@
 -- The trees of targets and statements that hang in arenas.
-use Rattle.std.specs.Prelude.{ℕ, List, [], ◌∷◌, Option, Some, None, slice_get}
-use Rattle.std.proofs.Common.{zero, suc}
+use Rattle.std.specs.Prelude.{ℕ, List, [], ◌∷◌}
+use Rattle.lx_arena.specs.Folds.{fold_at}
 use Rattle.lx_circuit.specs.Terms.{Term}
 use Rattle.lx_circuit.specs.Statements as tree
 use Rattle.lx_fhdl.specs.Below.{TargetId, StmtId}
@@ -26,17 +26,9 @@ node_target t g (target.Pick items index) = tree.PickTarget (targets_at g items)
 abbrev pub no_target : tree.Target
 no_target = tree.CatTarget tree.NoTarget
 
-abbrev pub target_of : (ℕ → Term) → (ℕ → tree.Target) → Option Target → tree.Target
-target_of t g (Some x) = node_target t g x
-target_of t g None = no_target
-
-unfoldable pub target_within : (ℕ → Term) → List Target → ℕ → ℕ → tree.Target
-target_within t xs zero k = no_target
-target_within t xs (suc n) k = target_of t (target_within t xs n) (slice_get xs k)
-
 -- the target at a place
 unfoldable pub target_at : (ℕ → Term) → List Target → ℕ → tree.Target
-target_at t xs k = target_within t xs (suc k) k
+target_at t xs k = fold_at no_target (node_target t) xs k
 
 abbrev pub block_at : (ℕ → tree.Stmt) → List StmtId → tree.Block
 block_at s [] = tree.Done
@@ -60,14 +52,6 @@ node_stmt t g s (stmt.Case on arms rest line) = tree.Case (t on.place) (arms_at 
 abbrev pub no_stmt : tree.Stmt
 no_stmt = tree.If tree.NoBranch tree.Done
 
-abbrev pub stmt_of : (ℕ → Term) → (ℕ → tree.Target) → (ℕ → tree.Stmt) → Option Stmt → tree.Stmt
-stmt_of t g s (Some x) = node_stmt t g s x
-stmt_of t g s None = no_stmt
-
-unfoldable pub stmt_within : (ℕ → Term) → (ℕ → tree.Target) → List Stmt → ℕ → ℕ → tree.Stmt
-stmt_within t g xs zero k = no_stmt
-stmt_within t g xs (suc n) k = stmt_of t g (stmt_within t g xs n) (slice_get xs k)
-
 -- the statement at a place
 unfoldable pub stmt_at : (ℕ → Term) → (ℕ → tree.Target) → List Stmt → ℕ → tree.Stmt
-stmt_at t g xs k = stmt_within t g xs (suc k) k
+stmt_at t g xs k = fold_at no_stmt (node_stmt t g) xs k

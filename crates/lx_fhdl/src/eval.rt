@@ -5,7 +5,7 @@ ghost use Rattle.lx_num.specs.Ints.{Fits, field_of, modulo, shape, wrapped};
 ghost use Rattle.lx_circuit.specs.Shapes.{unary_shape, binary_fault, bits_sum, constant_fault, slice_fault};
 ghost use Rattle.lx_circuit.specs.Values.{unary_value, binary_value, mux_value, cat_pattern, count_of, replicate_value, pick_value, flag};
 ghost use Rattle.lx_fhdl.specs.declared.exprs.Expr.{Expr};
-ghost use Rattle.lx_fhdl.specs.Nodes.{EachChild, EachPlace, IsFit, IsKnown, IsNode, IsShaped, IsSmall, IsValued, node_value, shape_at, shapes_at, value_at, values_at};
+ghost use Rattle.lx_fhdl.specs.Nodes.{EachChild, EachPlace, IsFit, IsKnown, IsNode, IsShaped, IsSmall, IsValued, listed, node_value, shape_at, shapes_at, value_at, values_at};
 
 use crate::exprs::{Expr, ExprId, Exprs, SigId};
 use crate::steps::Steps;
@@ -225,7 +225,7 @@ fn value(exprs: &Exprs, shapes: &[Shape], id: ExprId, vals: &[i128], known: &[i1
     requires place { id.place < length exprs.now }
     requires node { (x : Expr) → slice_get exprs.now id.place ≡ Some x → IsNode shapes.now vals.now id.place x }
     requires children { (x : Expr) → slice_get exprs.now id.place ≡ Some x → EachChild (IsKnown shapes.now known.now) x }
-    ensures { (x : Expr) → slice_get exprs.now id.place ≡ Some x → result ≡ node_value shapes.now (value_at vals.now) known.now x }
+    ensures { (x : Expr) → slice_get exprs.now id.place ≡ Some x → result ≡ node_value shapes.now (listed vals.now) known.now x }
 {
     match exprs.get(id) {
         Expr::Const {
@@ -255,13 +255,14 @@ fn value(exprs: &Exprs, shapes: &[Shape], id: ExprId, vals: &[i128], known: &[i1
         Expr::Slice { of, low, high } => {
             slice(shape_of(shapes, *of), *low, *high, value_of(known, *of))
         }
+        Expr::Fetch { .. } => unreachable!(),
     }
 }
 
 /// The value of one expression, from the values of its children.
 ///
 /// `shapes` has the shape of every expression, from its children's; one that names a signal may have any shape of 1 to
-/// 64 bits, of which `vals` has a value. `known` has the values of the expression's children. It counts one step.
+/// 64 bits, of which `vals` has a value. No expression reads a memory. `known` has the values of the expression's children. It counts one step.
 pub fn eval_node<L: Ledger>(
     exprs: &Exprs,
     shapes: &[Shape],
@@ -274,7 +275,7 @@ pub fn eval_node<L: Ledger>(
     requires shaped { IsShaped exprs.now shapes.now vals.now }
     requires long { length known.now ≡ length exprs.now }
     requires children { (x : Expr) → slice_get exprs.now id.place ≡ Some x → EachChild (IsFit shapes.now known.now) x }
-    ensures value { (x : Expr) → slice_get exprs.now id.place ≡ Some x → result ≡ node_value shapes.now (value_at vals.now) known.now x }
+    ensures value { (x : Expr) → slice_get exprs.now id.place ≡ Some x → result ≡ node_value shapes.now (listed vals.now) known.now x }
     ensures fits { Fits (shape_at shapes.now id.place) result }
     ensures cost { steps.new ≡ steps.old + 1 }
 {
@@ -304,122 +305,5 @@ pub fn eval_into<L: Ledger>(
             of: PhantomData,
         };
         into[place] = eval_node(exprs, shapes, id, vals, into, steps);
-    }
-}
-
-#[cfg(test)]
-mod tests {
-    use super::*;
-
-    macro_rules! shape {
-        ($n:literal $s:literal) => {
-            Shape {
-                bits: $n,
-                signed: $s,
-            }
-        };
-    }
-
-    macro_rules! value {
-        ($op:ident, $n:literal $s:literal $x:literal, $m:literal $t:literal $y:literal) => {
-            binary(Op::$op, shape!($n $s), shape!($m $t), $x, $y)
-        };
-    }
-
-    // an operator at the least and greatest operands of four bits: both signed, both unsigned, and one of each
-    macro_rules! extremes {
-        ($rt:ident, $op:ident, $a:literal $b:literal $c:literal $d:literal $e:literal $f:literal) => {
-            assert_eq!($rt; value!($op, 4 true -8, 4 true 7), $a);
-            assert_eq!($rt; value!($op, 4 true 7, 4 true -8), $b);
-            assert_eq!($rt; value!($op, 4 false 0, 4 false 15), $c);
-            assert_eq!($rt; value!($op, 4 false 15, 4 false 0), $d);
-            assert_eq!($rt; value!($op, 4 true -8, 4 false 15), $e);
-            assert_eq!($rt; value!($op, 4 false 15, 4 true -8), $f);
-        };
-    }
-
-    #[test]
-    fn sums_at_extremes(rt: HostRuntime) {
-        extremes!(rt, Add, -1 -1 15 15 7 7);
-        extremes!(rt, Sub, -15 15 -15 15 -23 23);
-        extremes!(rt, Mul, -56 -56 0 0 -120 -120);
-    }
-
-    #[test]
-    fn bits_at_extremes(rt: HostRuntime) {
-        extremes!(rt, And, 0 0 0 0 8 8);
-        extremes!(rt, Or, -1 -1 15 15 -1 -1);
-        extremes!(rt, Xor, -1 -1 15 15 -9 -9);
-    }
-
-    #[test]
-    fn comparisons_at_extremes(rt: HostRuntime) {
-        extremes!(rt, Eq, 0 0 0 0 0 0);
-        extremes!(rt, Ne, 1 1 1 1 1 1);
-        extremes!(rt, Lt, 1 0 1 0 1 0);
-        extremes!(rt, Le, 1 0 1 0 1 0);
-        extremes!(rt, Gt, 0 1 0 1 0 1);
-        extremes!(rt, Ge, 0 1 0 1 0 1);
-    }
-
-    #[test]
-    fn shifts_and_signs_at_extremes(rt: HostRuntime) {
-        assert_eq!(rt; value!(Shl, 4 true -8, 4 false 15), -262144);
-        assert_eq!(rt; value!(Shl, 4 true 7, 4 false 15), 229376);
-        assert_eq!(rt; value!(Shl, 4 false 15, 4 false 15), 491520);
-        assert_eq!(rt; value!(Shr, 4 true -8, 4 false 15), -1);
-        assert_eq!(rt; value!(Shr, 4 true 7, 4 false 15), 0);
-        assert_eq!(rt; value!(Shr, 4 false 15, 4 false 0), 15);
-        assert_eq!(rt; unary(Op::Neg, shape!(4 true), -8), 8);
-        assert_eq!(rt; unary(Op::Neg, shape!(4 false), 15), -15);
-        assert_eq!(rt; unary(Op::Not, shape!(4 true), -8), 7);
-        assert_eq!(rt; unary(Op::Not, shape!(4 true), 7), -8);
-        assert_eq!(rt; unary(Op::Not, shape!(4 false), 0), 15);
-        assert_eq!(rt; unary(Op::Not, shape!(4 false), 15), 0);
-    }
-
-    #[test]
-    fn sums_and_products(rt: HostRuntime) {
-        assert_eq!(rt; value!(Add, 4 false 15, 4 false 15), 30);
-        assert_eq!(rt; value!(Add, 4 true -8, 4 false 3), -5);
-        assert_eq!(rt; value!(Add, 4 true -8, 4 false 15), 7);
-        assert_eq!(rt; value!(Sub, 4 false 0, 4 false 15), -15);
-        assert_eq!(rt; value!(Mul, 4 true -8, 4 true -8), 64);
-        assert_eq!(rt; value!(Mul, 4 true -8, 4 false 15), -120);
-    }
-
-    #[test]
-    fn shifts(rt: HostRuntime) {
-        assert_eq!(rt; value!(Shl, 4 true -8, 2 false 3), -64);
-        assert_eq!(rt; value!(Shr, 5 false 30, 1 false 1), 15);
-        assert_eq!(rt; value!(Shr, 4 true -7, 1 false 1), -4);
-        assert_eq!(rt;
-            value!(Shr, 4 true -7, 127 false 170141183460469231731687303715884105727),
-            -1
-        );
-        assert_eq!(rt; value!(Shr, 4 false 15, 64 false 18446744073709551615), 0);
-    }
-
-    #[test]
-    fn bits_and_comparisons(rt: HostRuntime) {
-        assert_eq!(rt; value!(And, 4 true -8, 4 false 15), 8);
-        assert_eq!(rt; value!(Or, 4 true -8, 4 false 3), -5);
-        assert_eq!(rt; value!(Xor, 4 true -1, 4 false 5), -6);
-        assert_eq!(rt; value!(Lt, 4 true -8, 4 false 3), 1);
-        assert_eq!(rt; value!(Eq, 4 true -1, 4 false 15), 0);
-        assert_eq!(rt; value!(Ge, 4 true -1, 4 false 15), 0);
-    }
-
-    #[test]
-    fn other_operators(rt: HostRuntime) {
-        assert_eq!(rt; unary(Op::Not, shape!(1 false), 1), 0);
-        assert_eq!(rt; unary(Op::Not, shape!(4 false), 5), 10);
-        assert_eq!(rt; unary(Op::Not, shape!(4 true), 5), -6);
-        assert_eq!(rt; unary(Op::Neg, shape!(4 true), -8), 8);
-        assert_eq!(rt; choose(0, 5, 7), 7);
-        assert_eq!(rt; choose(-1, 5, 7), 5);
-        assert_eq!(rt; replicate(shape!(2 false), 3, 2), 42);
-        assert_eq!(rt; slice(shape!(8 false), 4, 8, 0xc5), 12);
-        assert_eq!(rt; place_of(3, 2), 2);
     }
 }

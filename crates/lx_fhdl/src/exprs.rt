@@ -63,6 +63,12 @@ pub enum Expr {
         low: u32,
         high: u32,
     },
+    /// The word of a memory at the index, of `width` bits; 0 at or past the memory's depth.
+    Fetch {
+        memory: usize,
+        width: u8,
+        at: ExprId,
+    },
 }
 
 /// Whether all these places are lower than n.
@@ -95,6 +101,7 @@ impl Node for Expr {
             Expr::Pick { items, index } => all_lower(items.as_slice(), n) && index.place < n,
             Expr::Replicate { of, .. } => of.place < n,
             Expr::Slice { of, .. } => of.place < n,
+            Expr::Fetch { at, .. } => at.place < n,
         }
     }
 }

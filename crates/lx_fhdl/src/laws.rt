@@ -1,8 +1,11 @@
 //! Laws over all arenas and all designs.
 
+ghost use Rattle.lx_fhdl.specs.Extremes.{AreWorked};
+ghost use Rattle.lx_fhdl.specs.Rows.{AreRefused, AreSpelled};
+ghost use Rattle.lx_fhdl.specs.Rows as rows;
 ghost use Rattle.lx_fhdl.specs.Instance.{instance};
 ghost use Rattle.lx_fhdl.specs.Keeping.{Keeps};
-ghost use Rattle.lx_fhdl.specs.Laws.{DesignsFit, StmtsStand, TargetsStand, TreesStand, ValuesStand};
+ghost use Rattle.lx_fhdl.specs.Laws.{DesignsFit, ResetsDiffer, StmtsStand, TargetsStand, TestHolds, TreesStand, ValuesStand};
 
 /// The tree at a place is made of the trees of its node's children.
 pub fn tree_law()
@@ -30,7 +33,30 @@ pub fn design_law()
     ensures { DesignsFit }
 {}
 
-/// A design with a clock domain, a reset, and statements of every kind keeps what `design_law` asks.
+/// A design that passes the test keeps what designs keep.
+pub fn kept_law()
+    ensures { TestHolds }
+{}
+
+/// The resets of two domains are two signals.
+pub fn resets_law()
+    ensures { ResetsDiffer }
+{}
+
+/// A design with a clock domain, a reset, statements of every kind, a memory that is read by a Fetch, and ports of
+/// every mode keeps what `design_law` asks.
 pub fn some_design_law()
     ensures { Keeps instance }
+{}
+
+/// The values of operators at extreme operands, worked by hand.
+pub fn extremes_are_worked()
+    ensures { AreWorked }
+{}
+
+/// What a design means, names, and designs that don't keep what designs keep, worked by hand.
+pub fn designs_are_worked()
+    ensures meaning { rows.AreWorked }
+    ensures names { AreSpelled }
+    ensures refused { AreRefused }
 {}

@@ -3,6 +3,7 @@
 #![tactic(auto)]
 
 pub mod design;
+pub mod draft;
 pub mod eval;
 pub mod exprs;
 pub mod laws;
@@ -12,7 +13,8 @@ pub mod stmts;
 #[cfg(test)]
 mod tests;
 
-pub use design::{Design, Domain, Signal, SyncPart};
+pub use design::{Design, Domain, Memory, Port, PortMode, Signal, SyncPart};
+pub use draft::Draft;
 pub use eval::{eval_into, eval_node};
 pub use exprs::{Expr, ExprId, Exprs, InExprs, SigId};
 pub use places::{BankWish, Fix, Numbered, Placement, Region, RegionWish, Wishes};

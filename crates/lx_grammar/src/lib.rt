@@ -8,4 +8,4 @@ pub mod sign;
 
 pub use ahead::view_of;
 pub use grammar::{Rule, Spot, Symbol, looks_far, production, rule_of};
-pub use sign::{Item, Sign, number_of, sign_of, signed};
+pub use sign::{Item, Sign, number_of, sign_of, signed, token_text};

@@ -254,9 +254,9 @@ pub fn sign_of(kind: TokenKind, text: &[u8]) -> Sign
     }
 }
 
-// The bytes of a token; of a token that passes the source's end, those up to it.
+/// The bytes of a token; of a token that passes the source's end, those up to it.
 #[tactic(auto, unfolding(crate::specs::Signs::text_at))]
-fn text_of<'a>(src: &'a [u8], token: &Token) -> &'a [u8]
+pub fn token_text<'a>(src: &'a [u8], token: &Token) -> &'a [u8]
     ensures { result.now ≡ text_at src.now token.now.start token.now.end }
 {
     let start = (token.start as usize).min(src.len());
@@ -271,7 +271,7 @@ pub fn signed(alloc: Global, src: &[u8], tokens: &[Token]) -> Result<List<Item>,
 {
     let mut items = List::new(alloc);
     for token in tokens {
-        let sign = sign_of(token.kind, text_of(src, token));
+        let sign = sign_of(token.kind, token_text(src, token));
         items.push(Item {
             token: *token,
             sign,

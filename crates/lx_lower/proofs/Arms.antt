@@ -1,21 +1,27 @@
 -- Arms one after the other: the keys that were seen, and the conditions of keys.
-use Rattle.std.proofs.Common.{◌≡◌, ℕ, ℤ, ◌+◌, ◌<◌, Bool, true, false, ◌||◌, List, [], ◌∷◌, ◌++◌, Option, None, length, take, get_or, nat_eq, refl, sym, ap, ◌∙◌, add-one, eq-eqb, FitsSigned, to_z, of_z}
+use Rattle.std.proofs.Common.{◌≡◌, ℕ, ℤ, ◌+◌, ◌<◌, Bool, true, false, ◌||◌, List, [], ◌∷◌, ◌++◌, Option, Some, None, cond, length, take, get_or, nat_eq, refl, sym, ap, subst, ◌∙◌, ◌≤◌, arith, inl, inr, add-one, eq-eqb, FitsSigned, to_z, of_z}
 use Rattle.std.specs.Int.{w128}
 use Rattle.std.specs.Ordering.{int_eq}
 use Rattle.std.proofs.lemmas.Int.{to_z-of_z}
 use Rattle.std.proofs.Math.Seq.{take-suc}
-use Rattle.lx_circuit.specs.Shapes.{Shapes}
-use Rattle.lx_circuit.specs.Terms.{Term}
+use Rattle.lx_circuit.specs.Shapes.{Shapes, joined, shape_of}
+use Rattle.lx_circuit.specs.Terms.{Binary, Term}
 use Rattle.lx_fhdl.specs.Below.{ExprId}
-use Rattle.lx_fhdl.specs.Trees.{term_at}
-use Rattle.lx_fhdl.specs.declared.design.Signal.{Signal}
-use Rattle.lx_fhdl.specs.declared.exprs.Expr.{Expr}
 use Rattle.lx_fhdl.specs.declared.stmts.Arm.{Arm}
-use Rattle.lx_lowering.specs.Flat.{is_among_keys, no_key}
+use Rattle.lx_tables.specs.declared.operators.Op.TheVariants as op
+use Rattle.lx_lowering.specs.Flat.{and_none, is_among_keys, is_key, key_of, no_key}
 use Rattle.lx_lowering.proofs.Branches.{int_eq-true, eq-int_eq}
-use Rattle.lx_lower.specs.Drafts.{shapes_in}
-use Rattle.lx_lower.specs.Keys.{keys_onto, seen_keys, none_of, NonePut, none_after}
-use Rattle.lx_lower.proofs.Staying.{terms_then}
+use Rattle.lx_fhdl.specs.Designs.{shapes, term}
+use Rattle.lx_fhdl.specs.declared.design.Design.{Design}
+use Rattle.lx_lower.specs.Keys.{AreBits, AreFresh, fresh_at, is_fresh, key_at, keys_onto, seen_keys, none_of, NonePut, none_after}
+use Rattle.lx_lower.proofs.Sound.{grows_same, grows_then, same_shapes, term_kept}
+use Rattle.lx_lower.specs.Plain.{IsBit, TermPut}
+use Rattle.lx_num.specs.declared.Shape.{Shape}
+use Rattle.lx_num.specs.Ints.{unsigned, wrapped}
+use Rattle.lx_lowering.specs.Terms.{never}
+use Rattle.std.specs.Prelude.{pos, ◌&&◌, not}
+use Rattle.std.proofs.lemmas.Bool.{cases_lt}
+use Rattle.std.proofs.lemmas.List.{get_or_append_left, get_or_default, get_or_push, length_push}
 
 -- ---- keys that were seen
 
@@ -61,22 +67,83 @@ none_last : (s : Shapes) (on : Term) (seen : List ℤ) (before : Option Term) (a
 none_last s on seen before [] a = refl
 none_last s on seen before (b ∷ more) a = none_last s on (b.key ∷ seen) (no_key s on seen before b.key) more a
 
-pub none_more : {ss : List Signal} {xs ys zs : List Expr} {a b : Option ExprId} (arms : List Arm) (k on : ℕ) (z : Arm) → FitsSigned w128 z.key → k < length arms → z ≡ get_or arms k z → on < length xs
-    → NonePut ss xs ys a (none_after (shapes_in ss) (term_at xs on) [] None (take k arms))
-    → NonePut ss ys zs b (no_key (shapes_in ss) (term_at ys on) (seen_keys (take k arms)) (none_of ys a) (to_z w128 (of_z w128 z.key)))
-    → NonePut ss xs zs b (none_after (shapes_in ss) (term_at xs on) [] None (take (k + 1) arms))
-none_more {ss} {xs} {ys} {zs} {a} {b} arms k on z f l e there p q =
-    let s = shapes_in ss in
+pub none_more : (x y z : Design) (a b : Option ExprId) (arms : List Arm) (k on : ℕ) (m : Arm) (fresh : Bool) → k < length arms → m ≡ get_or arms k m → on < length x.exprs
+    → NonePut x y a (none_after (shapes x) (term x on) [] None (take k arms))
+    → cond fresh (and_none (none_of y a) (Binary op.Ne (term x on) (key_of (shapes x) (term x on) m.key))) (none_of y a) ≡ no_key (shapes x) (term x on) (seen_keys (take k arms)) (none_of y a) m.key
+    → NonePut y z b (cond fresh (and_none (none_of y a) (Binary op.Ne (term y on) (key_of (shapes y) (term y on) m.key))) (none_of y a))
+    → NonePut x z b (none_after (shapes x) (term x on) [] None (take (k + 1) arms))
+none_more x y z a b arms k on m fresh l e there p is q =
+    let s = shapes x in
     let seen = seen_keys (take k arms) in
     record {
-      terms = terms_then xs ys zs p.terms q.terms;
+      grows = grows_then p.grows q.grows;
       bit = q.bit;
       tree =
           q.tree
-          ∙ ap (λ (x : ℤ). no_key s (term_at ys on) seen (none_of ys a) x) (to_z-of_z w128 z.key f)
-          ∙ ap (λ (t : Term). no_key s t seen (none_of ys a) z.key) (p.terms.stays on there)
-          ∙ ap (λ (o : Option Term). no_key s (term_at xs on) seen o z.key) p.tree
-          ∙ ap (λ (c : Arm). no_key s (term_at xs on) seen (none_after s (term_at xs on) [] None (take k arms)) c.key) e
-          ∙ sym (none_last s (term_at xs on) [] None (take k arms) (get_or arms k z))
-          ∙ ap (none_after s (term_at xs on) [] None) (sym (arms_next arms k z l));
+          ∙ ap (λ (r : Shapes). cond fresh (and_none (none_of y a) (Binary op.Ne (term y on) (key_of r (term y on) m.key))) (none_of y a)) (same_shapes x y p.grows.signals)
+          ∙ ap (λ (t : Term). cond fresh (and_none (none_of y a) (Binary op.Ne t (key_of s t m.key))) (none_of y a)) (term_kept on p.grows there)
+          ∙ is
+          ∙ ap (λ (o : Option Term). no_key s (term x on) seen o m.key) p.tree
+          ∙ ap (λ (c : Arm). no_key s (term x on) seen (none_after s (term x on) [] None (take k arms)) c.key) e
+          ∙ sym (none_last s (term x on) [] None (take k arms) (get_or arms k m))
+          ∙ ap (none_after s (term x on) [] None) (sym (arms_next arms k m l));
+    }
+
+pub none_start : (x : Design) (s : Shapes) (on : Term) → NonePut x x None (none_after s on [] None (take 0 []))
+none_start x s on = record { grows = grows_same x; bit = tt; tree = refl }
+
+-- ---- fresh keys
+
+pub fresh_none : (a : Shape) (arms : List Arm) → AreFresh a arms 0 []
+fresh_none a arms = record { long = refl; each = λ k l. absurd (omega arith) }
+
+key_is_at : (arms : List Arm) (k : ℕ) (z : Arm) → k < length arms → z ≡ get_or arms k z → key_at arms k ≡ z.key
+key_is_at arms k z l e = ap (λ (a : Arm). a.key) (get_or_default arms k (record { key = pos 0; body = [] }) z l ∙ sym e)
+
+pub fresh_is : (a : Shape) (arms : List Arm) (k n : ℕ) (z : Arm) (fresh : List Bool) → k < length arms → z ≡ get_or arms k z → AreFresh a arms n fresh → k < n → fresh_at fresh k ≡ (int_eq (wrapped a z.key) z.key && not (is_among_keys z.key (seen_keys (take k arms))))
+fresh_is a arms k n z fresh l e h m = h.each k m ∙ ap (λ (key : ℤ). int_eq (wrapped a key) key && not (is_among_keys key (seen_keys (take k arms)))) (key_is_at arms k z l e)
+
+pub fresh_more : (a : Shape) (arms : List Arm) (n : ℕ) (fresh : List Bool) (z : Arm) (own : Bool) → AreFresh a arms n fresh → n < length arms → z ≡ get_or arms n z → own ≡ (int_eq (wrapped a z.key) z.key && not (is_among_keys z.key (seen_keys (take n arms))))
+    → AreFresh a arms (n + 1) (fresh ++ own ∷ [])
+fresh_more a arms n fresh z own h l e f = record {
+  long = length_push fresh own ∙ ap (λ (k : ℕ). k + 1) h.long;
+  each = λ k m.
+      elim (cases_lt k n) [
+        | inl p ↦ get_or_append_left fresh (own ∷ []) false k (omega (arith, h.long)) ∙ h.each k p
+        | inr p ↦
+            let q : n ≡ k = omega arith in
+            get_or_push fresh own false k (h.long ∙ q)
+            ∙ f
+            ∙ ap (λ (key : ℤ). int_eq (wrapped a key) key && not (is_among_keys key (seen_keys (take n arms)))) (sym (key_is_at arms n z l e))
+            ∙ ap (is_fresh a arms) q
+      ];
+}
+
+pub fresh_all : (a : Shape) (arms : List Arm) (n : ℕ) (fresh : List Bool) → length arms ≤ n → n ≤ length arms → AreFresh a arms n fresh → AreFresh a arms (length arms) fresh
+fresh_all a arms n fresh l m h = let e : n ≡ length arms = omega arith in subst (λ (k : ℕ). AreFresh a arms k fresh) e h
+
+-- the conditions of keys, from whether they are fresh
+pub key_is : (s : Shapes) (on : Term) (seen : List ℤ) (key : ℤ) (a : Shape) (fresh : Bool) → shape_of s on ≡ a → fresh ≡ (int_eq (wrapped a key) key && not (is_among_keys key seen)) → cond fresh (Binary op.Eq on (key_of s on key)) never ≡ is_key s on seen key
+key_is s on seen key a fresh e f = ap (λ (b : Bool). cond b (Binary op.Eq on (key_of s on key)) never) (f ∙ ap (λ (c : Shape). int_eq (wrapped c key) key && not (is_among_keys key seen)) (sym e))
+
+pub no_key_is : (s : Shapes) (on : Term) (seen : List ℤ) (none : Option Term) (key : ℤ) (a : Shape) (fresh : Bool) → shape_of s on ≡ a → fresh ≡ (int_eq (wrapped a key) key && not (is_among_keys key seen)) → cond fresh (and_none none (Binary op.Ne on (key_of s on key))) none ≡ no_key s on seen none key
+no_key_is s on seen none key a fresh e f = ap (λ (b : Bool). cond b (and_none none (Binary op.Ne on (key_of s on key))) none) (f ∙ ap (λ (c : Shape). int_eq (wrapped c key) key && not (is_among_keys key seen)) (sym e))
+
+-- a condition more that stands for no key
+pub and_none_put : (x y z : Design) (before : Option ExprId) (i other id : ExprId) {a b : Term} → AreBits x before → before ≡ Some i → TermPut x y other.place (Binary op.Ne a b) → TermPut y z id.place (Binary op.And (term y i.place) (term y other.place))
+    → NonePut x z (Some id) (and_none (none_of x before) (Binary op.Ne a b))
+and_none_put x y z before i other id {a} {b} h e p q =
+    let bit : IsBit x i.place = subst (AreBits x) e h in
+    let s = shapes x in
+    record {
+      grows = grows_then p.grows q.grows;
+      bit = record {
+        there = q.within;
+        bit =
+            ap (λ (r : Shapes). shape_of r (term z id.place)) (same_shapes x z (q.grows.signals ∙ p.grows.signals))
+            ∙ ap (shape_of s) (q.tree ∙ ap (λ (u : Term). Binary op.And u (term y other.place)) (term_kept i.place p.grows bit.there) ∙ ap (Binary op.And (term x i.place)) p.tree)
+            ∙ ap (λ (c : Shape). joined c (unsigned 1)) bit.bit;
+      };
+      tree = ap (λ (u : Term). Some u) (q.tree ∙ ap (λ (u : Term). Binary op.And u (term y other.place)) (term_kept i.place p.grows bit.there) ∙ ap (Binary op.And (term x i.place)) p.tree)
+          ∙ sym (ap (λ (o : Option ExprId). and_none (none_of x o) (Binary op.Ne a b)) e);
     }

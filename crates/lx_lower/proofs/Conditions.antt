@@ -1,24 +1,60 @@
--- Small shapes, numbers below a power of two, and the conditions of keys.
-use Rattle.std.proofs.Common.{◌≡◌, ℕ, ◌*◌, ◌%◌, ◌^◌, ◌<◌, ◌≤◌, Bool, true, false, ◌&&◌, not, cond, List, length, sym, ap, subst, arith, nat_lt}
-use Rattle.std.specs.Prelude.{ℤ, Option}
+-- Conditions that are added to a draft.
+use Rattle.std.proofs.Common.{◌≡◌, ℕ, ◌*◌, ◌%◌, ◌^◌, ◌<◌, ◌≤◌, Bool, true, false, refl, sym, ap, ◌∙◌, arith, nat_lt, [], ◌∷◌, length, length-append}
+use Rattle.std.specs.Prelude.{ℤ, Option, Some, None, cond, min}
+use Rattle.lx_circuit.specs.declared.WidthFault.{WidthFault}
 use Rattle.std.proofs.Math.Nat.{pow-le-pow_right}
-use Rattle.std.proofs.lemmas.Bool.{lt-ltb}
+use Rattle.std.proofs.lemmas.Bool.{lt-ltb, and_from}
 use Rattle.std.proofs.lemmas.Nat.{one_shl}
 use Rattle.lx_num.specs.declared.Shape.{Shape}
-use Rattle.lx_tables.specs.declared.operators.Op.TheVariants as op
-use Rattle.lx_circuit.specs.Terms.{Term, Binary}
-use Rattle.lx_circuit.specs.Shapes.{Shapes, shape_of}
+use Rattle.lx_tables.specs.declared.operators.Op.{Op}
+use Rattle.lx_circuit.specs.Shapes.{or_else, shape_of, fault_of, binary_fault}
+use Rattle.lx_circuit.specs.Terms as tree
+use Rattle.lx_circuit.specs.Terms.{Term}
+use Rattle.lx_fhdl.specs.Below.{ExprId}
+use Rattle.lx_fhdl.specs.Designs.{shapes, term}
+use Rattle.lx_fhdl.specs.Drafts.{DraftKeeps, ExprPut}
 use Rattle.lx_fhdl.specs.Nodes.{IsSmall}
-use Rattle.lx_fhdl.specs.Trees.{term_at}
+use Rattle.lx_fhdl.specs.Trees.{node_term}
+use Rattle.lx_fhdl.specs.declared.design.Design.{Design}
 use Rattle.lx_fhdl.specs.declared.exprs.Expr.{Expr}
-use Rattle.lx_lowering.specs.Flat.{is_among_keys, is_value, key_of, is_key, and_none, no_key}
-use Rattle.lx_lowering.specs.Terms.{never}
-use Rattle.lx_lower.specs.Drafts.{ExprsAreSound}
-use Rattle.lx_lower.proofs.Kept.{shape_small}
+use Rattle.lx_fhdl.specs.declared.exprs.Expr.TheVariants.{Binary}
+use Rattle.lx_lower.specs.Operands.{CanJoin, HasShape}
+use Rattle.lx_lower.specs.Plain.{CanAdd, IsBit, TermPut}
+use Rattle.lx_lower.specs.Tests.{is_test}
+use Rattle.lx_lower.specs.declared.operands.Operand.{Operand}
+use Rattle.lx_lower.proofs.Sound.{grows_then, put_is, shape_kept, small_shape, term_kept}
+use Rattle.lx_num.specs.Ints.{shape, unsigned}
+use Rattle.lx_circuit.specs.Shapes.{joined, too_wide}
+use Rattle.lx_circuit.specs.declared.WidthFault.TheVariants.{TooWide}
+use Rattle.std.proofs.lemmas.Bool.{le-leb}
+use Rattle.lx_circuit.specs.Operands.{is_binary}
+use Rattle.lx_tables.specs.declared.operators.Op.TheVariants as op
 
--- the shape that stands for an expression is small
-pub small_shape : (s : Shapes) (n : ℕ) (xs : List Expr) (k : ℕ) (a : Shape) → ExprsAreSound s n xs → k < length xs → shape_of s (term_at xs k) ≡ a → IsSmall a
-small_shape s n xs k a keep l e = subst (λ (b : Shape). IsSmall b) e (shape_small s n xs k keep l)
+-- a node that was added, by its tree
+pub term_put : (old new : Design) (x : Expr) (id : ℕ) → ExprPut old new x id → TermPut old new id (node_term (term old) x)
+term_put old new x id put = record {
+  grows = record { signals = ap (λ (d : Design). d.signals) put.is; memories = ap (λ (d : Design). d.memories) put.is; stays = put.stays };
+  within = omega (arith, put.place, ap (λ (d : Design). length d.exprs) put.is, length-append old.exprs (x ∷ []));
+  tree = put.tree;
+}
+
+pub binary_added : (d : Design) (o : Op) (left right : ExprId) → DraftKeeps d → CanJoin d o left right → CanAdd d (Binary o left right)
+binary_added d o left right keep can = record {
+  sound = record {
+    below = search (and_from (nat_lt left.place (length d.exprs)) (nat_lt right.place (length d.exprs)) (lt-ltb left.place (length d.exprs) can.left_there) (lt-ltb right.place (length d.exprs) can.right_there));
+    shaped =
+        ap (λ o. or_else o (or_else (fault_of (shapes d) (term d right.place)) own)) (keep.arenas.shaped left.place can.left_there)
+        ∙ ap (λ o. or_else o own) (keep.arenas.shaped right.place can.right_there)
+        ∙ can.sound;
+    operands = can.binary;
+    parts = tt;
+    named = tt;
+  };
+  plain = refl;
+}
+  where
+    own : Option WidthFault
+    own = binary_fault o (shape_of (shapes d) (term d left.place)) (shape_of (shapes d) (term d right.place))
 
 -- a number of 64 bits is less than 2 to 64 or more bits
 pub below_far : (k b : ℕ) → k < 2 ^ 64 → 64 ≤ b → true ≡ nat_lt k (2 ^ b)
@@ -27,18 +63,60 @@ below_far k b h l = let two : 0 < 2 = omega arith in sym (lt-ltb k (2 ^ b) (omeg
 pub below_near : (k b : ℕ) → b < 64 → nat_lt k ((1 * 2 ^ b) % 2 ^ 64) ≡ nat_lt k (2 ^ b)
 below_near k b h = ap (nat_lt k) (one_shl b 64 h)
 
--- ---- keys
+-- ---- tests
 
--- the condition of a key that is a value and wasn't seen, and what is left where it isn't this one
-pub key_is : (s : Shapes) (on : Term) (seen : List ℤ) (key : ℤ) → (is_value s on key && not (is_among_keys key seen)) ≡ true → Binary op.Eq on (key_of s on key) ≡ is_key s on seen key
-key_is s on seen key e = sym (ap (λ (b : Bool). cond b (Binary op.Eq on (key_of s on key)) never) e)
+test_binary : (o : Op) → is_test o ≡ true → is_binary o ≡ true
+test_binary op.Eq h = refl
+test_binary op.Ne h = refl
+test_binary op.Ge h = refl
+test_binary _ h = absurd (cc)
 
-pub no_key_is : (s : Shapes) (on : Term) (seen : List ℤ) (none : Option Term) (key : ℤ) → (is_value s on key && not (is_among_keys key seen)) ≡ true → and_none none (Binary op.Ne on (key_of s on key)) ≡ no_key s on seen none key
-no_key_is s on seen none key e = sym (ap (λ (b : Bool). cond b (and_none none (Binary op.Ne on (key_of s on key))) none) e)
+same_bits : (n : ℕ) (b : Bool) → (joined (shape n b) (shape n b)).bits ≡ n
+same_bits n true = omega arith
+same_bits n false = omega arith
 
--- another key is never the case, and leaves what there is
-pub key_never : (s : Shapes) (on : Term) (seen : List ℤ) (key : ℤ) → (is_value s on key && not (is_among_keys key seen)) ≡ false → never ≡ is_key s on seen key
-key_never s on seen key e = sym (ap (λ (b : Bool). cond b (Binary op.Eq on (key_of s on key)) never) e)
+pub narrow : (n : ℕ) → n ≤ 127 → too_wide n ≡ None
+narrow n h = ap (λ (b : Bool). cond b None (Some (TooWide (min n 4294967295)))) (le-leb n 127 h)
 
-pub no_key_same : (s : Shapes) (on : Term) (seen : List ℤ) (none : Option Term) (key : ℤ) → (is_value s on key && not (is_among_keys key seen)) ≡ false → none ≡ no_key s on seen none key
-no_key_same s on seen none key e = sym (ap (λ (b : Bool). cond b (and_none none (Binary op.Ne on (key_of s on key))) none) e)
+both_narrow : (a : Shape) → IsSmall a → or_else (too_wide (joined a a).bits) None ≡ None
+both_narrow a h = ap (λ o. or_else o None) (narrow (joined a a).bits (omega (arith, same_bits a.bits a.signed, h.most)))
+
+test_sound : (o : Op) (a : Shape) → IsSmall a → is_test o ≡ true → binary_fault o a a ≡ None
+test_sound op.Eq a h t = both_narrow a h
+test_sound op.Ne a h t = both_narrow a h
+test_sound op.Ge a h t = both_narrow a h
+test_sound _ a h t = absurd (cc)
+
+pub can_test : (old mid : Design) (o : Op) (of : Operand) (number : ExprId) (z : ℤ) → DraftKeeps old → is_test o ≡ true → HasShape old of → TermPut old mid number.place (tree.Constant z of.shape) → CanJoin mid o of.id number
+can_test old mid o of number z keep test h p =
+    let s = shapes mid in
+    record {
+      binary = test_binary o test;
+      left_there = omega (arith, h.there, p.grows.stays.exprs);
+      right_there = p.within;
+      sound =
+          ap (λ a. binary_fault o a (shape_of s (term mid number.place))) (shape_kept p.grows h).shape
+          ∙ ap (λ t. binary_fault o of.shape (shape_of s t)) p.tree
+          ∙ test_sound o of.shape (small_shape old of keep h) test;
+    }
+
+-- an operator over an expression and a number that was added for it
+pub number_put : (old mid new : Design) (o : Op) (of number : ExprId) (id : ℕ) (t : Term) → of.place < length old.exprs → TermPut old mid number.place t → TermPut mid new id (tree.Binary o (term mid of.place) (term mid number.place)) → TermPut old new id (tree.Binary o (term old of.place) t)
+number_put old mid new o of number id t l p q = record {
+  grows = grows_then p.grows q.grows;
+  within = q.within;
+  tree = q.tree ∙ ap (λ u. tree.Binary o u (term mid number.place)) (term_kept of.place p.grows l) ∙ ap (tree.Binary o (term old of.place)) p.tree;
+}
+
+-- a test against a number of the expression's own shape
+pub own_shape : (old new : Design) (o : Op) (of : Operand) (id : ℕ) (z : ℤ) → HasShape old of → TermPut old new id (tree.Binary o (term old of.id.place) (tree.Constant z of.shape))
+    → TermPut old new id (tree.Binary o (term old of.id.place) (tree.Constant z (shape_of (shapes old) (term old of.id.place))))
+own_shape old new o of id z h p = put_is old new id _ _ p (ap (λ a. tree.Binary o (term old of.id.place) (tree.Constant z a)) (sym h.shape))
+
+pub bits_join : (d : Design) (left right : ExprId) → IsBit d left.place → IsBit d right.place → CanJoin d op.And left right
+bits_join d left right a b = record {
+  binary = refl;
+  left_there = a.there;
+  right_there = b.there;
+  sound = ap (λ x. binary_fault op.And x (shape_of (shapes d) (term d right.place))) a.bit ∙ ap (binary_fault op.And (unsigned 1)) b.bit;
+}

@@ -1,8 +1,8 @@
 -- Items of a list from a place on.
-use Rattle.std.proofs.Common.{◌≡◌, ℕ, zero, suc, ◌+◌, ◌<◌, ◌≤◌, List, [], ◌∷◌, length, drop, get_or, refl, sym, ap, ◌∙◌, arith, drop-cons, add-one, length-drop}
+use Rattle.std.proofs.Common.{◌≡◌, ℕ, zero, suc, ◌+◌, ◌<◌, ◌≤◌, List, [], ◌∷◌, length, drop, get_or, refl, sym, ap, ◌∙◌, arith, drop-cons, add-one, length-drop, nat_lt}
 use Rattle.std.specs.Prelude.{IsTrue}
-use Rattle.std.proofs.lemmas.Bool.{and_parts}
-use Rattle.lx_fhdl.specs.Below.{all_stmts_below, all_branches_below, all_arms_below}
+use Rattle.std.proofs.lemmas.Bool.{and_parts, ltb-true}
+use Rattle.lx_fhdl.specs.Below.{StmtId, all_stmts_below, all_branches_below, all_arms_below}
 use Rattle.lx_fhdl.specs.Keeping.{BranchesStand}
 use Rattle.lx_fhdl.specs.declared.stmts.Arm.{Arm}
 use Rattle.lx_fhdl.specs.declared.stmts.Branch.{Branch}
@@ -42,3 +42,8 @@ conds_after n (b ∷ more) p = p.1
 pub bodies_after : (n : ℕ) (bs : List Branch) → IsTrue (all_branches_below n bs) → IsTrue (all_branches_below n (drop 1 bs))
 bodies_after n [] p = p
 bodies_after n (b ∷ more) p = search ((and_parts (all_stmts_below n b.body) (all_branches_below n more) (search p)).1)
+
+pub stmt_below_at : (n : ℕ) (ids : List StmtId) (k : ℕ) (z : StmtId) → IsTrue (all_stmts_below n ids) → k < length ids → (get_or ids k z).place < n
+stmt_below_at n [] k z p h = absurd (omega arith)
+stmt_below_at n (i ∷ is) zero z p h = ltb-true i.place n (and_parts (nat_lt i.place n) (all_stmts_below n is) (search p)).0
+stmt_below_at n (i ∷ is) (suc k) z p h = stmt_below_at n is k z (search ((and_parts (nat_lt i.place n) (all_stmts_below n is) (search p)).1)) (omega arith)

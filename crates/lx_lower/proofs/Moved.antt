@@ -1,12 +1,11 @@
 -- Nodes at their new places: their trees are those of the lowered nodes.
-use Rattle.std.proofs.Common.{◌≡◌, ℕ, ◌<◌, ◌≤◌, Bool, true, false, ◌&&◌, cond, List, [], ◌∷◌, ◌++◌, length, map, refl, sym, ap, ◌∙◌, arith, nat_lt}
-use Rattle.std.specs.Prelude.{ℤ, pos, Some, None, slice_get, FitsSigned, IsTrue}
+use Rattle.std.proofs.Common.{◌≡◌, ℕ, ◌<◌, ◌≤◌, Bool, true, false, ◌&&◌, cond, List, [], ◌∷◌, ◌++◌, length, map, refl, sym, ap, subst, ◌∙◌, arith, nat_lt}
+use Rattle.std.specs.Prelude.{ℤ, pos, Some, None, slice_get, FitsSigned}
 use Rattle.std.specs.Int.{w128}
 use mir.Val.{to_z, of_z}
-use Rattle.std.proofs.lemmas.Bool.{le-leb, lt-leb, lt-ltb, ltb-true, and_parts}
+use Rattle.std.proofs.lemmas.Bool.{le-leb, lt-leb, lt-ltb, ltb-true, and_parts, and_from}
 use Rattle.std.proofs.lemmas.Int.{to_z-of_z}
 use Rattle.std.proofs.lemmas.List.{length-map}
-use Rattle.std.proofs.lemmas.Option.{slice_get_within}
 use Rattle.lx_num.specs.declared.Shape.{Shape}
 use Rattle.lx_num.specs.Ints.{shape, wrapped}
 use Rattle.lx_tables.specs.declared.operators.Op.{Op}
@@ -15,71 +14,87 @@ use Rattle.lx_circuit.specs.Terms as term
 use Rattle.lx_circuit.specs.Terms.{Term, Terms, Constant, MoreTerms}
 use Rattle.lx_circuit.specs.Shapes.{Shapes, shape_of, shapes_of, fault_of, faults_of, or_else, binary_fault, pick_fault}
 use Rattle.lx_circuit.specs.Values.{count_of}
-use Rattle.lx_circuit.proofs.Cases.{and_true}
+use Rattle.lx_circuit.specs.declared.WidthFault.TheVariants.{SignedShift}
 use Rattle.lx_fhdl.specs.Below.{ExprId, all_below, expr_below}
 use Rattle.lx_fhdl.specs.Instance.{the_expr}
-use Rattle.lx_fhdl.specs.Keeping.{NamesBelow, TakesOperands}
+use Rattle.lx_fhdl.specs.Keeping.{NamesThere, TakesOperands}
 use Rattle.lx_fhdl.specs.Lowered.{is_no_pick}
-use Rattle.lx_fhdl.specs.Nodes.{HasParts, IsSmall, shape_at}
+use Rattle.lx_fhdl.specs.Nodes.{HasParts, IsSmall}
 use Rattle.lx_fhdl.specs.Trees.{terms_at, node_term, term_at}
 use Rattle.lx_fhdl.specs.declared.design.Design.{Design}
 use Rattle.lx_fhdl.specs.declared.exprs.Expr.{Expr}
-use Rattle.lx_fhdl.specs.declared.exprs.Expr.TheVariants.{Const, Sig, Unary, Binary, Mux, Cat, Pick, Replicate, Slice}
+use Rattle.lx_fhdl.specs.declared.exprs.Expr.TheVariants.{Const, Sig, Unary, Binary, Mux, Cat, Pick, Replicate, Slice, Fetch}
 use Rattle.lx_fhdl.proofs.Arena.{constant_small}
 use Rattle.lx_fhdl.proofs.Operators.{none_right, index_unsigned}
 use Rattle.lx_fhdl.proofs.Trees.{term_at-is}
 use Rattle.lx_lowering.specs.Terms.{cut_amount, lower_binary, lower_term, lower_terms, pick_from}
-use Rattle.lx_lowering.proofs.LowerTerms.{lower_shape, lower_shapes, lower_keeps}
-use Rattle.lx_lower.specs.Drafts.{ExprsAreSound, ExprIsSound, TermPut}
-use Rattle.lx_lower.specs.Exprs.{AreShapes, AreMoved, moved_to, moved_node, place_at}
+use Rattle.lx_lowering.proofs.LowerTerms.{cut_shape, lower_shape, lower_shapes, lower_keeps}
+use Rattle.lx_fhdl.specs.Designs.{shapes, term as tree}
+use Rattle.lx_fhdl.specs.Drafts.{DraftKeeps, ExprPut, started}
+use Rattle.lx_fhdl.specs.declared.design.Memory.{Memory}
+use Rattle.lx_fhdl.specs.declared.design.Signal.{Signal}
+use Rattle.lx_lower.proofs.Conditions.{term_put}
+use Rattle.lx_lower.specs.Operands.{CanJoin, HasShape}
+use Rattle.lx_lower.specs.Plain.{CanAdd, TermPut}
+use Rattle.lx_lower.specs.Sources.{CanPick, IsAmount, IsLowered, IsNext, IsRead, Read, moved_to, moved_node, place_at}
+use Rattle.lx_lower.specs.declared.operands.Operand.{Operand}
 use Rattle.lx_lower.proofs.Choices.{all_keep, items_keep}
-use Rattle.lx_lower.proofs.Growing.{one_longer, below_more}
-use Rattle.lx_lower.proofs.Kept.{all_wider, term_keeps, node_keeps}
+use Rattle.lx_arena.proofs.Places.{lower_at, one_longer, places_more}
+use Rattle.lx_lower.proofs.Sound.{ExprsAreSound, ExprIsSound, all_wider, arenas, item_sound, node_keeps, put_is, same_shapes, sound, term_keeps}
 use Rattle.lx_lower.proofs.Shaped.{at_front, at_last}
-use Rattle.lx_lower.proofs.Staying.{put_is}
+
+-- the lowered trees of the first expressions of olds hang in news at these places
+pub record AreMoved (s : Shapes) (olds news : List Expr) (places : List ExprId) : Type 0 where
+  pub most : length places ≤ length olds
+  pub within : (k : ℕ) → k < length places → place_at places k < length news
+  pub trees : (k : ℕ) → k < length places → term_at news (place_at places k) ≡ lower_term s (term_at olds k)
+
+pub are_moved : (r : Read) (d : Design) → IsRead r → IsLowered r d → AreMoved (shapes r.design) r.design.exprs d.exprs r.places
+are_moved r d read low = record { most = read.most; within = low.within; trees = low.trees }
 
 -- ---- amounts
 
-pub constant_there : (s : Shapes) (n : ℕ) (xs : List Expr) (k : ℕ) (x : Expr) (value : ℤ) (bits : ℕ) (signed : Bool) → ExprsAreSound s n xs → k < length xs → slice_get xs k ≡ Some x → x ≡ Const value bits signed → IsSmall (shape bits signed)
-constant_there s n xs k x value bits signed keep l e f =
-    let t = term_at-is xs keep.lower k (Const value bits signed) (e ∙ ap (λ (y : Expr). Some y) f) in
-    constant_small (shape bits signed) (sym (ap (fault_of s) t) ∙ keep.shaped k l)
+pub constant_there : (d : Design) (k : ℕ) (x : Expr) (value : ℤ) (bits : ℕ) (signed : Bool) → DraftKeeps d → k < length d.exprs → slice_get d.exprs k ≡ Some x → x ≡ Const value bits signed → IsSmall (shape bits signed)
+constant_there d k x value bits signed keep l e f =
+    let t = term_at-is d.exprs keep.arenas.exprs_lower k (Const value bits signed) (e ∙ ap (λ (y : Expr). Some y) f) in
+    constant_small (shape bits signed) (sym (ap (fault_of (shapes d)) t) ∙ keep.arenas.shaped k l)
 
 cut_other : (n : ℕ) (t : ℕ → Term) (x : Expr) → ((value : ℤ) (bits : ℕ) (signed : Bool) → x ≡ Const value bits signed → ⊥) → cut_amount n (node_term t x) ≡ node_term t x
 cut_other n t (Const value bits signed) h = absurd (h value bits signed refl)
 cut_other n t (Sig x) h = refl
 cut_other n t (Unary op of) h = refl
 cut_other n t (Binary op left right) h = refl
-cut_other n t (Mux c so other) h = refl
+cut_other n t (Mux c then_ else_) h = refl
 cut_other n t (Cat parts) h = refl
 cut_other n t (Pick items index) h = refl
 cut_other n t (Replicate of count) h = refl
 cut_other n t (Slice of low high) h = refl
+cut_other n t (Fetch memory width at) h = refl
 
 -- an amount that is no constant stays
-pub other_stays : (s : Shapes) (m n : ℕ) (xs : List Expr) (k : ℕ) (x : Expr) → ExprsAreSound s m xs → slice_get xs k ≡ Some x → ((value : ℤ) (bits : ℕ) (signed : Bool) → x ≡ Const value bits signed → ⊥) → cut_amount n (term_at xs k) ≡ term_at xs k
-other_stays s m n xs k x keep e h =
-    let t = term_at-is xs keep.lower k x e in
-    ap (cut_amount n) t ∙ cut_other n (term_at xs) x h ∙ sym t
+pub other_stays : (d : Design) (n k : ℕ) (x : Expr) → DraftKeeps d → slice_get d.exprs k ≡ Some x → ((value : ℤ) (bits : ℕ) (signed : Bool) → x ≡ Const value bits signed → ⊥) → cut_amount n (term_at d.exprs k) ≡ term_at d.exprs k
+other_stays d n k x keep e h =
+    let t = term_at-is d.exprs keep.arenas.exprs_lower k x e in
+    ap (cut_amount n) t ∙ cut_other n (term_at d.exprs) x h ∙ sym t
 
-constant_is : (s : Shapes) (m : ℕ) (xs : List Expr) (k : ℕ) (x : Expr) (value : ℤ) (bits : ℕ) (signed : Bool) → ExprsAreSound s m xs → slice_get xs k ≡ Some x → x ≡ Const value bits signed → term_at xs k ≡ Constant value (shape bits signed)
-constant_is s m xs k x value bits signed keep e f = term_at-is xs keep.lower k (Const value bits signed) (e ∙ ap (λ (y : Expr). Some y) f)
+constant_is : (d : Design) (k : ℕ) (x : Expr) (value : ℤ) (bits : ℕ) (signed : Bool) → DraftKeeps d → slice_get d.exprs k ≡ Some x → x ≡ Const value bits signed → term_at d.exprs k ≡ Constant value (shape bits signed)
+constant_is d k x value bits signed keep e f = term_at-is d.exprs keep.arenas.exprs_lower k (Const value bits signed) (e ∙ ap (λ (y : Expr). Some y) f)
 
 -- the code's count of a constant's value
 pub counted : (number : ℕ) (w v : ℤ) (a : Shape) → number ≡ count_of (to_z w128 (of_z w128 w)) → w ≡ wrapped a (to_z w128 (of_z w128 v)) → FitsSigned w128 w → FitsSigned w128 v → number ≡ count_of (wrapped a v)
 counted number w v a e f g h = e ∙ ap count_of (to_z-of_z w128 w g ∙ f ∙ ap (wrapped a) (to_z-of_z w128 v h))
 
 -- a constant below so many bits stays, and another is cut
-pub below_stays : (s : Shapes) (m n : ℕ) (xs : List Expr) (k : ℕ) (x : Expr) (value : ℤ) (bits : ℕ) (signed : Bool) → ExprsAreSound s m xs → slice_get xs k ≡ Some x → x ≡ Const value bits signed → count_of (wrapped (shape bits signed) value) < n → cut_amount n (term_at xs k) ≡ term_at xs k
-below_stays s m n xs k x value bits signed keep e f h =
+pub below_stays : (d : Design) (n k : ℕ) (x : Expr) (value : ℤ) (bits : ℕ) (signed : Bool) → DraftKeeps d → slice_get d.exprs k ≡ Some x → x ≡ Const value bits signed → count_of (wrapped (shape bits signed) value) < n → cut_amount n (term_at d.exprs k) ≡ term_at d.exprs k
+below_stays d n k x value bits signed keep e f h =
     let a = shape bits signed in
-    let t = constant_is s m xs k x value bits signed keep e f in
+    let t = constant_is d k x value bits signed keep e f in
     ap (cut_amount n) t ∙ ap (λ (b : Bool). cond b (Constant (pos n) a) (Constant value a)) (lt-leb n (count_of (wrapped a value)) h) ∙ sym t
 
-pub past_cut : (s : Shapes) (m n : ℕ) (xs : List Expr) (k : ℕ) (x : Expr) (value : ℤ) (bits : ℕ) (signed : Bool) → ExprsAreSound s m xs → slice_get xs k ≡ Some x → x ≡ Const value bits signed → n ≤ count_of (wrapped (shape bits signed) value) → cut_amount n (term_at xs k) ≡ Constant (pos n) (shape bits signed)
-past_cut s m n xs k x value bits signed keep e f h =
+pub past_cut : (d : Design) (n k : ℕ) (x : Expr) (value : ℤ) (bits : ℕ) (signed : Bool) → DraftKeeps d → slice_get d.exprs k ≡ Some x → x ≡ Const value bits signed → n ≤ count_of (wrapped (shape bits signed) value) → cut_amount n (term_at d.exprs k) ≡ Constant (pos n) (shape bits signed)
+past_cut d n k x value bits signed keep e f h =
     let a = shape bits signed in
-    let t = constant_is s m xs k x value bits signed keep e f in
+    let t = constant_is d k x value bits signed keep e f in
     ap (cut_amount n) t ∙ ap (λ (b : Bool). cond b (Constant (pos n) a) (Constant value a)) (le-leb n (count_of (wrapped a value)) h)
 
 -- ---- children at their new places
@@ -88,19 +103,15 @@ pub moved_tree : (s : Shapes) (olds news : List Expr) (places : List ExprId) (id
 moved_tree s olds news places id h l = h.trees id.place l
 
 -- a lowered tree has the shape of the tree
-pub moved_shape : (s : Shapes) (n : ℕ) (olds news : List Expr) (places : List ExprId) (id : ExprId) → ExprsAreSound s n olds → AreMoved s olds news places → id.place < length places → shape_of s (term_at news (moved_to places id).place) ≡ shape_of s (term_at olds id.place)
-moved_shape s n olds news places id keep h l =
-    ap (shape_of s) (h.trees id.place l) ∙ lower_shape s n (term_at olds id.place) (term_keeps s n olds id.place keep (omega (arith, h.most)))
-
--- so it is the shape that the code has for it
-pub moved_has : (s : Shapes) (d : Design) (n : ℕ) (news : List Expr) (places : List ExprId) (hs : List Shape) (id : ExprId) → ExprsAreSound s n d.exprs → AreShapes s d hs → AreMoved s d.exprs news places → id.place < length places → shape_of s (term_at news (moved_to places id).place) ≡ shape_at hs id.place
-moved_has s d n news places hs id keep a h l = moved_shape s n d.exprs news places id keep h l ∙ sym (a.each id.place (omega (arith, h.most)))
+pub moved_shape : (s : Shapes) (n : ℕ) (ms : List Memory) (olds news : List Expr) (places : List ExprId) (id : ExprId) → ExprsAreSound s n ms olds → AreMoved s olds news places → id.place < length places → shape_of s (term_at news (moved_to places id).place) ≡ shape_of s (term_at olds id.place)
+moved_shape s n ms olds news places id keep h l =
+    ap (shape_of s) (h.trees id.place l) ∙ lower_shape s n (term_at olds id.place) (term_keeps s n ms olds id.place keep (omega (arith, h.most)))
 
 pub moved_below : (s : Shapes) (olds news : List Expr) (places is : List ExprId) → AreMoved s olds news places → all_below (length places) is ≡ true → all_below (length news) (map (moved_to places) is) ≡ true
 moved_below s olds news places [] h e = refl
 moved_below s olds news places (i ∷ is) h e =
     let p = and_parts (nat_lt i.place (length places)) (all_below (length places) is) e in
-    and_true (nat_lt (moved_to places i).place (length news)) (all_below (length news) (map (moved_to places) is))
+    and_from (nat_lt (moved_to places i).place (length news)) (all_below (length news) (map (moved_to places) is))
     (lt-ltb (moved_to places i).place (length news) (h.within i.place (ltb-true i.place (length places) p.0)))
     (moved_below s olds news places is h p.1)
 
@@ -111,11 +122,11 @@ moved_terms s olds news places (i ∷ is) h e =
     ap (λ (t : Term). MoreTerms t (terms_at (term_at news) (map (moved_to places) is))) (h.trees i.place (ltb-true i.place (length places) p.0))
     ∙ ap (MoreTerms (lower_term s (term_at olds i.place))) (moved_terms s olds news places is h p.1)
 
-moved_shapes : (s : Shapes) (n : ℕ) (olds news : List Expr) (places is : List ExprId) → ExprsAreSound s n olds → AreMoved s olds news places → all_below (length places) is ≡ true → shapes_of s (terms_at (term_at news) (map (moved_to places) is)) ≡ shapes_of s (terms_at (term_at olds) is)
-moved_shapes s n olds news places is keep h e =
+moved_shapes : (s : Shapes) (n : ℕ) (ms : List Memory) (olds news : List Expr) (places is : List ExprId) → ExprsAreSound s n ms olds → AreMoved s olds news places → all_below (length places) is ≡ true → shapes_of s (terms_at (term_at news) (map (moved_to places) is)) ≡ shapes_of s (terms_at (term_at olds) is)
+moved_shapes s n ms olds news places is keep h e =
     let there = all_wider (length places) (length olds) is h.most e in
     ap (shapes_of s) (moved_terms s olds news places is h e)
-    ∙ lower_shapes s n (terms_at (term_at olds) is) (all_keep s n (term_at olds) is (items_keep s n olds is keep there))
+    ∙ lower_shapes s n (terms_at (term_at olds) is) (all_keep s n (term_at olds) is (items_keep s n ms olds is keep there))
 
 -- ---- operators
 
@@ -144,62 +155,121 @@ other_binary s op.Replicate a b h = refl
 own_fault : (s : Shapes) (o : Op) (a b : Term) → fault_of s (term.Binary o a b) ≡ None → binary_fault o (shape_of s a) (shape_of s b) ≡ None
 own_fault s o a b e = none_right (fault_of s b) (binary_fault o (shape_of s a) (shape_of s b)) (none_right (fault_of s a) (or_else (fault_of s b) (binary_fault o (shape_of s a) (shape_of s b))) e)
 
+-- an expression of the design, at its new place
+pub record IsFor (r : Read) (d : Design) (v : Operand) (id : ExprId) : Type 0 where
+  pub shape : HasShape d v
+  pub tree : tree d v.id.place ≡ lower_term (shapes r.design) (tree r.design id.place)
+
+sound_next : (r : Read) (x : Expr) → IsNext r x → ExprIsSound (shapes r.design) (length r.design.signals) r.design.memories r.design.exprs x
+sound_next r x n = record { below = n.sound.below; shaped = n.sound.shaped; operands = n.sound.operands; parts = n.sound.parts; named = n.sound.named }
+
+below_most : (r : Read) (id : ExprId) → IsRead r → nat_lt id.place (length r.places) ≡ true → id.place < length r.design.exprs
+below_most r id read e = omega (arith, ltb-true id.place (length r.places) e, read.most)
+
+-- its shape is that of the expression
+shape_for : (r : Read) (d : Design) (v : Operand) (id : ExprId) → IsRead r → IsLowered r d → id.place < length r.design.exprs → IsFor r d v id → shape_of (shapes d) (tree d v.id.place) ≡ shape_of (shapes r.design) (tree r.design id.place)
+shape_for r d v id read low l h =
+    let s = shapes r.design in
+    let n = length r.design.signals in
+    ap (λ (u : Shapes). shape_of u (tree d v.id.place)) (same_shapes r.design d low.signals)
+    ∙ ap (shape_of s) h.tree
+    ∙ lower_shape s n (tree r.design id.place) (term_keeps s n r.design.memories r.design.exprs id.place (sound r.design (arenas r.design read.keeps)) l)
+
 -- the operands of an operator of the design, at their new places
-pub operands_sound : (s : Shapes) (n : ℕ) (olds news : List Expr) (places : List ExprId) (o : Op) (left right : ExprId) → ExprsAreSound s n olds → AreMoved s olds news places → left.place < length places → right.place < length places → fault_of s (term.Binary o (term_at olds left.place) (term_at olds right.place)) ≡ None
-    → binary_fault o (shape_of s (term_at news (moved_to places left).place)) (shape_of s (term_at news (moved_to places right).place)) ≡ None
-operands_sound s n olds news places o left right keep h l r e =
-    ap (λ (a : Shape). binary_fault o a (shape_of s (term_at news (moved_to places right).place))) (moved_shape s n olds news places left keep h l)
-    ∙ ap (binary_fault o (shape_of s (term_at olds left.place))) (moved_shape s n olds news places right keep h r)
-    ∙ own_fault s o (term_at olds left.place) (term_at olds right.place) e
+pub operands_join : (r : Read) (d : Design) (o : Op) (left right : ExprId) (v w : Operand) → IsRead r → IsLowered r d → IsNext r (Binary o left right) → IsFor r d v left → IsFor r d w right → CanJoin d o v.id w.id
+operands_join r d o left right v w read low n f g =
+    let s = shapes r.design in
+    let below = and_parts (nat_lt left.place (length r.places)) (nat_lt right.place (length r.places)) (search n.below) in
+    record {
+      binary = n.sound.operands;
+      left_there = f.shape.there;
+      right_there = g.shape.there;
+      sound =
+          ap (λ (a : Shape). binary_fault o a (shape_of (shapes d) (tree d w.id.place))) (shape_for r d v left read low (below_most r left read below.0) f)
+          ∙ ap (binary_fault o (shape_of s (tree r.design left.place))) (shape_for r d w right read low (below_most r right read below.1) g)
+          ∙ own_fault s o (tree r.design left.place) (tree r.design right.place) n.sound.shaped;
+    }
 
-pub amount_unsigned : (s : Shapes) (n : ℕ) (olds news : List Expr) (places : List ExprId) (o : Op) (left right : ExprId) → ExprsAreSound s n olds → AreMoved s olds news places → left.place < length places → right.place < length places → o ≡ op.Shr → fault_of s (term.Binary o (term_at olds left.place) (term_at olds right.place)) ≡ None
-    → (shape_of s (term_at news (moved_to places right).place)).signed ≡ false
-amount_unsigned s n olds news places o left right keep h l r q e =
-    let a = shape_of s (term_at news (moved_to places left).place) in
-    let b = shape_of s (term_at news (moved_to places right).place) in
-    index_unsigned b (ap (λ (p : Op). binary_fault p a b) (sym q) ∙ operands_sound s n olds news places o left right keep h l r e)
+pub operand_amount : (r : Read) (d : Design) (o : Op) (left right : ExprId) (v w : Operand) → IsRead r → IsLowered r d → IsNext r (Binary o left right) → IsFor r d v left → IsFor r d w right → o ≡ op.Shr → IsAmount d w.id.place
+operand_amount r d o left right v w read low n f g q =
+    let a = shape_of (shapes d) (tree d v.id.place) in
+    let b = shape_of (shapes d) (tree d w.id.place) in
+    record {
+      there = g.shape.there;
+      plain = index_unsigned b (ap (λ (p : Op). binary_fault p a b) (sym q) ∙ (operands_join r d o left right v w read low n f g).sound);
+    }
 
-pub shift_put : (s : Shapes) (olds news more : List Expr) (places : List ExprId) (o : Op) (left right : ExprId) (id : ℕ) (a : Shape) → AreMoved s olds news places → left.place < length places → right.place < length places → o ≡ op.Shr → shape_of s (term_at news (moved_to places left).place) ≡ a
-    → TermPut news more id (term.Binary op.Shr (term_at news (moved_to places left).place) (cut_amount a.bits (term_at news (moved_to places right).place))) → TermPut news more id (lower_term s (term.Binary o (term_at olds left.place) (term_at olds right.place)))
-shift_put s olds news more places o left right id a h l r q e p =
-    let x = lower_term s (term_at olds left.place) in
-    let y = lower_term s (term_at olds right.place) in
-    let f = h.trees left.place l in
-    let g = h.trees right.place r in
-    put_is news more id (term.Binary op.Shr (term_at news (moved_to places left).place) (cut_amount a.bits (term_at news (moved_to places right).place))) (lower_binary s o x y) p
-    (ap (λ (b : Shape). term.Binary op.Shr (term_at news (moved_to places left).place) (cut_amount b.bits (term_at news (moved_to places right).place))) (sym e)
-    ∙ ap (λ (t : Term). term.Binary op.Shr t (cut_amount (shape_of s t).bits (term_at news (moved_to places right).place))) f
-    ∙ ap (λ (t : Term). term.Binary op.Shr x (cut_amount (shape_of s x).bits t)) g
+pub shift_put : (r : Read) (d e : Design) (o : Op) (left right : ExprId) (v w : Operand) (id : ℕ) → IsLowered r d → IsFor r d v left → IsFor r d w right → o ≡ op.Shr
+    → TermPut d e id (term.Binary op.Shr (tree d v.id.place) (cut_amount v.shape.bits (tree d w.id.place))) → TermPut d e id (lower_term (shapes r.design) (term.Binary o (tree r.design left.place) (tree r.design right.place)))
+shift_put r d e o left right v w id low f g q p =
+    let s = shapes r.design in
+    let x = lower_term s (tree r.design left.place) in
+    let y = lower_term s (tree r.design right.place) in
+    put_is d e id (term.Binary op.Shr (tree d v.id.place) (cut_amount v.shape.bits (tree d w.id.place))) (lower_binary s o x y) p
+    (ap (λ (b : Shape). term.Binary op.Shr (tree d v.id.place) (cut_amount b.bits (tree d w.id.place))) (sym f.shape.shape ∙ ap (λ (u : Shapes). shape_of u (tree d v.id.place)) (same_shapes r.design d low.signals))
+    ∙ ap (λ (t : Term). term.Binary op.Shr t (cut_amount (shape_of s t).bits (tree d w.id.place))) f.tree
+    ∙ ap (λ (t : Term). term.Binary op.Shr x (cut_amount (shape_of s x).bits t)) g.tree
     ∙ ap (λ (u : Op). lower_binary s u x y) (sym q))
 
-pub binary_put : (s : Shapes) (olds news more : List Expr) (places : List ExprId) (o : Op) (left right : ExprId) (id : ℕ) → AreMoved s olds news places → left.place < length places → right.place < length places → (o ≡ op.Shr → ⊥)
-    → TermPut news more id (term.Binary o (term_at news (moved_to places left).place) (term_at news (moved_to places right).place)) → TermPut news more id (lower_term s (term.Binary o (term_at olds left.place) (term_at olds right.place)))
-binary_put s olds news more places o left right id h l r q p =
-    let x = lower_term s (term_at olds left.place) in
-    let y = lower_term s (term_at olds right.place) in
-    put_is news more id (term.Binary o (term_at news (moved_to places left).place) (term_at news (moved_to places right).place)) (lower_binary s o x y) p
-    (ap (λ (t : Term). term.Binary o t (term_at news (moved_to places right).place)) (h.trees left.place l)
-    ∙ ap (term.Binary o x) (h.trees right.place r)
-    ∙ sym (other_binary s o x y q))
+pub binary_put : (r : Read) (d e : Design) (o : Op) (left right : ExprId) (v w : Operand) (id : ℕ) → IsFor r d v left → IsFor r d w right → (o ≡ op.Shr → ⊥)
+    → TermPut d e id (term.Binary o (tree d v.id.place) (tree d w.id.place)) → TermPut d e id (lower_term (shapes r.design) (term.Binary o (tree r.design left.place) (tree r.design right.place)))
+binary_put r d e o left right v w id f g q p =
+    let s = shapes r.design in
+    let x = lower_term s (tree r.design left.place) in
+    let y = lower_term s (tree r.design right.place) in
+    put_is d e id (term.Binary o (tree d v.id.place) (tree d w.id.place)) (lower_binary s o x y) p
+    (ap (λ (t : Term). term.Binary o t (tree d w.id.place)) f.tree ∙ ap (term.Binary o x) g.tree ∙ sym (other_binary s o x y q))
+
+-- an operand that is shifted by an amount that was cut
+pub shift_join : (d e : Design) (v : Operand) (amount cut : ExprId) (n : ℕ) → HasShape d v → IsAmount d amount.place → TermPut d e cut.place (cut_amount n (tree d amount.place)) → CanJoin e op.Shr v.id cut
+shift_join d e v amount cut n h a p =
+    let b = shape_of (shapes e) (tree e cut.place) in
+    let plain : b.signed ≡ false =
+    ap (λ (u : Shapes). (shape_of u (tree e cut.place)).signed) (same_shapes d e p.grows.signals)
+    ∙ ap (λ (t : Term). (shape_of (shapes d) t).signed) p.tree
+    ∙ ap (λ (c : Shape). c.signed) (cut_shape (shapes d) n (tree d amount.place))
+    ∙ a.plain in
+    record {
+      binary = refl;
+      left_there = omega (arith, h.there, p.grows.stays.exprs);
+      right_there = p.within;
+      sound = ap (λ (c : Bool). cond c (Some SignedShift) None) plain;
+    }
 
 -- ---- picks
 
-pub pick_sound : (s : Shapes) (n : ℕ) (olds news : List Expr) (places items : List ExprId) (index : ExprId) (a : Shape) → ExprsAreSound s n olds → AreMoved s olds news places → all_below (length places) items ≡ true → shape_of s (term_at olds index.place) ≡ a
-    → fault_of s (term.Pick (terms_at (term_at olds) items) (term_at olds index.place)) ≡ None → pick_fault (shapes_of s (terms_at (term_at news) (map (moved_to places) items))) a ≡ None
-pick_sound s n olds news places items index a keep h b q e =
+pub items_pick : (r : Read) (d : Design) (items : List ExprId) (index : ExprId) (v : Operand) → IsRead r → IsLowered r d → IsNext r (Pick items index) → IsFor r d v index → CanPick d (map (moved_to r.places) items) v.shape
+items_pick r d items index v read low n f =
+    let s = shapes r.design in
+    let h = are_moved r d read low in
+    let olds = r.design.exprs in
+    let below = and_parts (all_below (length r.places) items) (nat_lt index.place (length r.places)) (search n.below) in
+    let keep = sound r.design (arenas r.design read.keeps) in
     let ts = terms_at (term_at olds) items in
     let i = term_at olds index.place in
-    ap (λ (as_ : List Shape). pick_fault as_ a) (moved_shapes s n olds news places items keep h b)
-    ∙ ap (pick_fault (shapes_of s ts)) (sym q)
-    ∙ none_right (fault_of s i) (pick_fault (shapes_of s ts) (shape_of s i)) (none_right (faults_of s ts) (or_else (fault_of s i) (pick_fault (shapes_of s ts) (shape_of s i))) e)
+    let moved = map (moved_to r.places) items in
+    record {
+      some = omega (arith, n.sound.parts, length-map items (moved_to r.places));
+      there = search (moved_below s olds d.exprs r.places items h below.0);
+      sound =
+          ap (λ (u : Shapes). pick_fault (shapes_of u (terms_at (term_at d.exprs) moved)) v.shape) (same_shapes r.design d low.signals)
+          ∙ ap (λ (as_ : List Shape). pick_fault as_ v.shape) (moved_shapes s (length r.design.signals) r.design.memories olds d.exprs r.places items keep h below.0)
+          ∙ ap (pick_fault (shapes_of s ts)) (sym f.shape.shape ∙ shape_for r d v index read low (below_most r index read below.1) f)
+          ∙ none_right (fault_of s i) (pick_fault (shapes_of s ts) (shape_of s i)) (none_right (faults_of s ts) (or_else (fault_of s i) (pick_fault (shapes_of s ts) (shape_of s i))) n.sound.shaped);
+    }
 
-pub pick_put : (s : Shapes) (olds news more : List Expr) (places items : List ExprId) (index : ExprId) (id : ℕ) → AreMoved s olds news places → all_below (length places) items ≡ true → index.place < length places
-    → TermPut news more id (pick_from s 0 (terms_at (term_at news) (map (moved_to places) items)) (term_at news (moved_to places index).place)) → TermPut news more id (lower_term s (term.Pick (terms_at (term_at olds) items) (term_at olds index.place)))
-pick_put s olds news more places items index id h b l p =
-    let i = term_at news (moved_to places index).place in
-    put_is news more id (pick_from s 0 (terms_at (term_at news) (map (moved_to places) items)) i) (pick_from s 0 (lower_terms s (terms_at (term_at olds) items)) (lower_term s (term_at olds index.place))) p
-    (ap (λ (ts : Terms). pick_from s 0 ts i) (moved_terms s olds news places items h b)
-    ∙ ap (pick_from s 0 (lower_terms s (terms_at (term_at olds) items))) (h.trees index.place l))
+pub pick_put : (r : Read) (d e : Design) (items : List ExprId) (index : ExprId) (v : Operand) (id : ℕ) → IsRead r → IsLowered r d → IsNext r (Pick items index) → IsFor r d v index
+    → TermPut d e id (pick_from (shapes d) 0 (terms_at (tree d) (map (moved_to r.places) items)) (tree d v.id.place)) → TermPut d e id (lower_term (shapes r.design) (term.Pick (terms_at (tree r.design) items) (tree r.design index.place)))
+pick_put r d e items index v id read low n f p =
+    let s = shapes r.design in
+    let h = are_moved r d read low in
+    let olds = r.design.exprs in
+    let below = and_parts (all_below (length r.places) items) (nat_lt index.place (length r.places)) (search n.below) in
+    let moved = terms_at (tree d) (map (moved_to r.places) items) in
+    put_is d e id (pick_from (shapes d) 0 moved (tree d v.id.place)) (pick_from s 0 (lower_terms s (terms_at (term_at olds) items)) (lower_term s (term_at olds index.place))) p
+    (ap (λ (u : Shapes). pick_from u 0 moved (tree d v.id.place)) (same_shapes r.design d low.signals)
+    ∙ ap (λ (ts : Terms). pick_from s 0 ts (tree d v.id.place)) (moved_terms s olds d.exprs r.places items h below.0)
+    ∙ ap (pick_from s 0 (lower_terms s (terms_at (term_at olds) items))) f.tree)
 
 -- ---- other nodes
 
@@ -215,17 +285,18 @@ plain_term s olds news places (Const value bits signed) h e b p = refl
 plain_term s olds news places (Sig x) h e b p = refl
 plain_term s olds news places (Unary o of) h e b p = ap (term.Unary o) (h.trees of.place (ltb-true of.place (length places) e))
 plain_term s olds news places (Binary o left right) h e b p = absurd (b o left right refl)
-plain_term s olds news places (Mux c so other) h e b p =
+plain_term s olds news places (Mux c then_ else_) h e b p =
     let n = length places in
-    let q = and_parts (nat_lt c.place n) (nat_lt so.place n && nat_lt other.place n) e in
-    let r = and_parts (nat_lt so.place n) (nat_lt other.place n) q.1 in
-    ap (λ (t : Term). term.Mux t (term_at news (moved_to places so).place) (term_at news (moved_to places other).place)) (h.trees c.place (ltb-true c.place n q.0))
-    ∙ ap (λ (t : Term). term.Mux (lower_term s (term_at olds c.place)) t (term_at news (moved_to places other).place)) (h.trees so.place (ltb-true so.place n r.0))
-    ∙ ap (term.Mux (lower_term s (term_at olds c.place)) (lower_term s (term_at olds so.place))) (h.trees other.place (ltb-true other.place n r.1))
+    let q = and_parts (nat_lt c.place n) (nat_lt then_.place n && nat_lt else_.place n) e in
+    let r = and_parts (nat_lt then_.place n) (nat_lt else_.place n) q.1 in
+    ap (λ (t : Term). term.Mux t (term_at news (moved_to places then_).place) (term_at news (moved_to places else_).place)) (h.trees c.place (ltb-true c.place n q.0))
+    ∙ ap (λ (t : Term). term.Mux (lower_term s (term_at olds c.place)) t (term_at news (moved_to places else_).place)) (h.trees then_.place (ltb-true then_.place n r.0))
+    ∙ ap (term.Mux (lower_term s (term_at olds c.place)) (lower_term s (term_at olds then_.place))) (h.trees else_.place (ltb-true else_.place n r.1))
 plain_term s olds news places (Cat parts) h e b p = ap term.Cat (moved_terms s olds news places parts h e)
 plain_term s olds news places (Pick items index) h e b p = absurd (p items index refl)
 plain_term s olds news places (Replicate of count) h e b p = ap (λ (t : Term). term.Replicate t count) (h.trees of.place (ltb-true of.place (length places) e))
 plain_term s olds news places (Slice of low high) h e b p = ap (λ (t : Term). term.Slice t low high) (h.trees of.place (ltb-true of.place (length places) e))
+plain_term s olds news places (Fetch memory width at) h e b p = ap (term.Fetch memory width) (h.trees at.place (ltb-true at.place (length places) e))
 
 id_below : (s : Shapes) (olds news : List Expr) (places : List ExprId) (id : ExprId) → AreMoved s olds news places → nat_lt id.place (length places) ≡ true → nat_lt (moved_to places id).place (length news) ≡ true
 id_below s olds news places id h e = lt-ltb (moved_to places id).place (length news) (h.within id.place (ltb-true id.place (length places) e))
@@ -236,106 +307,127 @@ node_below s olds news places (Sig x) h e = refl
 node_below s olds news places (Unary o of) h e = id_below s olds news places of h e
 node_below s olds news places (Binary o left right) h e =
     let q = and_parts (nat_lt left.place (length places)) (nat_lt right.place (length places)) e in
-    and_true (nat_lt (moved_to places left).place (length news)) (nat_lt (moved_to places right).place (length news)) (id_below s olds news places left h q.0) (id_below s olds news places right h q.1)
-node_below s olds news places (Mux c so other) h e =
+    and_from (nat_lt (moved_to places left).place (length news)) (nat_lt (moved_to places right).place (length news)) (id_below s olds news places left h q.0) (id_below s olds news places right h q.1)
+node_below s olds news places (Mux c then_ else_) h e =
     let n = length places in
     let m = length news in
-    let q = and_parts (nat_lt c.place n) (nat_lt so.place n && nat_lt other.place n) e in
-    let r = and_parts (nat_lt so.place n) (nat_lt other.place n) q.1 in
-    and_true (nat_lt (moved_to places c).place m) (nat_lt (moved_to places so).place m && nat_lt (moved_to places other).place m) (id_below s olds news places c h q.0)
-    (and_true (nat_lt (moved_to places so).place m) (nat_lt (moved_to places other).place m) (id_below s olds news places so h r.0) (id_below s olds news places other h r.1))
+    let q = and_parts (nat_lt c.place n) (nat_lt then_.place n && nat_lt else_.place n) e in
+    let r = and_parts (nat_lt then_.place n) (nat_lt else_.place n) q.1 in
+    and_from (nat_lt (moved_to places c).place m) (nat_lt (moved_to places then_).place m && nat_lt (moved_to places else_).place m) (id_below s olds news places c h q.0)
+    (and_from (nat_lt (moved_to places then_).place m) (nat_lt (moved_to places else_).place m) (id_below s olds news places then_ h r.0) (id_below s olds news places else_ h r.1))
 node_below s olds news places (Cat parts) h e = moved_below s olds news places parts h e
 node_below s olds news places (Pick items index) h e =
     let q = and_parts (all_below (length places) items) (nat_lt index.place (length places)) e in
-    and_true (all_below (length news) (map (moved_to places) items)) (nat_lt (moved_to places index).place (length news)) (moved_below s olds news places items h q.0) (id_below s olds news places index h q.1)
+    and_from (all_below (length news) (map (moved_to places) items)) (nat_lt (moved_to places index).place (length news)) (moved_below s olds news places items h q.0) (id_below s olds news places index h q.1)
 node_below s olds news places (Replicate of count) h e = id_below s olds news places of h e
 node_below s olds news places (Slice of low high) h e = id_below s olds news places of h e
+node_below s olds news places (Fetch memory width at) h e = id_below s olds news places at h e
 
 operands_kept : (places : List ExprId) (x : Expr) → TakesOperands x → TakesOperands (moved_node places x)
 operands_kept places (Const value bits signed) h = h
 operands_kept places (Sig x) h = h
 operands_kept places (Unary o of) h = h
 operands_kept places (Binary o left right) h = h
-operands_kept places (Mux c so other) h = h
+operands_kept places (Mux c then_ else_) h = h
 operands_kept places (Cat parts) h = h
 operands_kept places (Pick items index) h = h
 operands_kept places (Replicate of count) h = h
 operands_kept places (Slice of low high) h = h
+operands_kept places (Fetch memory width at) h = h
 
 parts_kept : (places : List ExprId) (x : Expr) → HasParts x → HasParts (moved_node places x)
 parts_kept places (Const value bits signed) h = h
 parts_kept places (Sig x) h = h
 parts_kept places (Unary o of) h = h
 parts_kept places (Binary o left right) h = h
-parts_kept places (Mux c so other) h = h
+parts_kept places (Mux c then_ else_) h = h
 parts_kept places (Cat parts) h = omega (arith, h, length-map parts (moved_to places))
 parts_kept places (Pick items index) h = omega (arith, h, length-map items (moved_to places))
 parts_kept places (Replicate of count) h = h
 parts_kept places (Slice of low high) h = h
+parts_kept places (Fetch memory width at) h = h
 
-names_kept : (n : ℕ) (places : List ExprId) (x : Expr) → NamesBelow n x → NamesBelow n (moved_node places x)
-names_kept n places (Const value bits signed) h = h
-names_kept n places (Sig x) h = h
-names_kept n places (Unary o of) h = h
-names_kept n places (Binary o left right) h = h
-names_kept n places (Mux c so other) h = h
-names_kept n places (Cat parts) h = h
-names_kept n places (Pick items index) h = h
-names_kept n places (Replicate of count) h = h
-names_kept n places (Slice of low high) h = h
+names_kept : (n : ℕ) (ms : List Memory) (places : List ExprId) (x : Expr) → NamesThere n ms x → NamesThere n ms (moved_node places x)
+names_kept n ms places (Const value bits signed) h = h
+names_kept n ms places (Sig x) h = h
+names_kept n ms places (Unary o of) h = h
+names_kept n ms places (Binary o left right) h = h
+names_kept n ms places (Mux c then_ else_) h = h
+names_kept n ms places (Cat parts) h = h
+names_kept n ms places (Pick items index) h = h
+names_kept n ms places (Replicate of count) h = h
+names_kept n ms places (Slice of low high) h = h
+names_kept n ms places (Fetch memory width at) h = h
 
 pub plain_kept : (places : List ExprId) (x : Expr) → NoPick x → is_no_pick (moved_node places x) ≡ true
 plain_kept places (Const value bits signed) p = refl
 plain_kept places (Sig x) p = refl
 plain_kept places (Unary o of) p = refl
 plain_kept places (Binary o left right) p = refl
-plain_kept places (Mux c so other) p = refl
+plain_kept places (Mux c then_ else_) p = refl
 plain_kept places (Cat parts) p = refl
 plain_kept places (Pick items index) p = absurd (p items index refl)
 plain_kept places (Replicate of count) p = refl
 plain_kept places (Slice of low high) p = refl
+plain_kept places (Fetch memory width at) p = refl
 
--- the moved node is sound
-pub plain_sound : (s : Shapes) (n : ℕ) (olds news : List Expr) (places : List ExprId) (x : Expr) → ExprsAreSound s n olds → AreMoved s olds news places → IsTrue (expr_below x (length places)) → ExprIsSound s n olds x → NoBinary x → NoPick x → ExprIsSound s n news (moved_node places x)
-plain_sound s n olds news places x keep h e node b p =
-    let low : expr_below x (length places) ≡ true = search e in
+-- the moved node can be added, and its tree is the lowered one
+pub plain_added : (r : Read) (d : Design) (x : Expr) → IsRead r → IsLowered r d → IsNext r x → NoBinary x → NoPick x → CanAdd d (moved_node r.places x)
+plain_added r d x read low n b p =
+    let s = shapes r.design in
+    let h = are_moved r d read low in
+    let olds = r.design.exprs in
+    let keep = sound r.design (arenas r.design read.keeps) in
+    let count = length r.design.signals in
+    let below : expr_below x (length r.places) ≡ true = search n.below in
     record {
-      below = node_below s olds news places x h low;
-      shaped = ap (fault_of s) (plain_term s olds news places x h low b p) ∙ (lower_keeps s n (node_term (term_at olds) x) keep.small (node_keeps s n olds x keep node)).fault;
-      operands = operands_kept places x node.operands;
-      parts = parts_kept places x node.parts;
-      named = names_kept n places x node.named;
+      sound = record {
+        below = search (node_below s olds d.exprs r.places x h below);
+        shaped = ap (λ (u : Shapes). fault_of u (node_term (tree d) (moved_node r.places x))) (same_shapes r.design d low.signals)
+            ∙ ap (fault_of s) (plain_term s olds d.exprs r.places x h below b p) ∙ (lower_keeps s count (node_term (term_at olds) x) keep.small (node_keeps s count r.design.memories olds x keep (sound_next r x n))).fault;
+        operands = operands_kept r.places x n.sound.operands;
+        parts = parts_kept r.places x n.sound.parts;
+        named = subst (λ (ms : List Memory). NamesThere (length d.signals) ms (moved_node r.places x)) (sym low.memories)
+            (subst (λ (ss : List Signal). NamesThere (length ss) r.design.memories (moved_node r.places x)) (sym low.signals) (names_kept count r.design.memories r.places x n.sound.named));
+      };
+      plain = plain_kept r.places x p;
     }
 
-pub plain_put : (s : Shapes) (olds news more : List Expr) (places : List ExprId) (x : Expr) (id : ℕ) → AreMoved s olds news places → IsTrue (expr_below x (length places)) → NoBinary x → NoPick x
-    → TermPut news more id (node_term (term_at news) (moved_node places x)) → TermPut news more id (lower_term s (node_term (term_at olds) x))
-plain_put s olds news more places x id h e b p q =
-    put_is news more id (node_term (term_at news) (moved_node places x)) (lower_term s (node_term (term_at olds) x)) q (plain_term s olds news places x h (search e) b p)
+pub plain_put : (r : Read) (d e : Design) (x : Expr) (id : ℕ) → IsRead r → IsLowered r d → IsNext r x → NoBinary x → NoPick x → ExprPut d e (moved_node r.places x) id → TermPut d e id (lower_term (shapes r.design) (node_term (tree r.design) x))
+plain_put r d e x id read low n b p q =
+    put_is d e id (node_term (tree d) (moved_node r.places x)) (lower_term (shapes r.design) (node_term (tree r.design) x)) (term_put d e (moved_node r.places x) id q)
+    (plain_term (shapes r.design) r.design.exprs d.exprs r.places x (are_moved r d read low) (search n.below) b p)
 
 -- ---- one node more
 
-pub none_moved : (s : Shapes) (olds : List Expr) → AreMoved s olds [] []
-none_moved s olds = record { most = omega arith; within = λ k l. absurd (omega arith); trees = λ k l. absurd (omega arith) }
+-- the places so far, and one more
+pub none_lowered : (d : Design) (hs : List Shape) (ss : List Signal) (ms : List Memory) → ss ≡ d.signals → ms ≡ d.memories → IsLowered (record { design = d; shapes = hs; places = [] }) (started ss ms)
+none_lowered d hs ss ms e f = record { signals = e; memories = f; within = λ k l. absurd (omega arith); trees = λ k l. absurd (omega arith) }
 
-pub more_moved : (s : Shapes) (n : ℕ) (olds news more : List Expr) (places : List ExprId) (x : Expr) (id : ExprId) → ExprsAreSound s n olds → AreMoved s olds news places → slice_get olds (length places) ≡ Some x → TermPut news more id.place (lower_term s (node_term (term_at olds) x)) → AreMoved s olds more (places ++ id ∷ [])
-more_moved s n olds news more places x id keep h e p =
-    let k = length places in
-    let longer = one_longer places id in
-    let there = slice_get_within olds k x e in
-    let d = the_expr 0 in
-    let here : place_at (places ++ id ∷ []) k ≡ id.place = ap (λ (i : ExprId). i.place) (at_last places id d) in
-    let front = λ (j : ℕ) (l : j < k). let q : place_at (places ++ id ∷ []) j ≡ place_at places j = ap (λ (i : ExprId). i.place) (at_front places id j d l) in q in
+pub more_lowered : (r : Read) (d e : Design) (x : Expr) (id : ExprId) → IsRead r → IsLowered r d → slice_get r.design.exprs (length r.places) ≡ Some x → TermPut d e id.place (lower_term (shapes r.design) (node_term (tree r.design) x))
+    → IsLowered (record { design = r.design; shapes = r.shapes; places = r.places ++ id ∷ [] }) e
+more_lowered r d e x id read h at p =
+    let k = length r.places in
+    let longer = one_longer r.places id in
+    let z = the_expr 0 in
+    let here : place_at (r.places ++ id ∷ []) k ≡ id.place = ap (λ (i : ExprId). i.place) (at_last r.places id z) in
+    let front = λ (j : ℕ) (l : j < k). let q : place_at (r.places ++ id ∷ []) j ≡ place_at r.places j = ap (λ (i : ExprId). i.place) (at_front r.places id j z l) in q in
     record {
-      most = omega (arith, longer, there);
-      within = below_more (λ j. place_at (places ++ id ∷ []) j < length more) k (length (places ++ id ∷ [])) longer
-          (λ j l. let w = h.within j l in omega (arith, front j l, w, p.terms.longer))
+      signals = p.grows.signals ∙ h.signals;
+      memories = p.grows.memories ∙ h.memories;
+      within = places_more (λ j. place_at (r.places ++ id ∷ []) j < length e.exprs) k (length (r.places ++ id ∷ [])) longer
+          (λ j l. let w = h.within j l in omega (arith, front j l, w, p.grows.stays.exprs))
           (omega (arith, here, p.within));
-      trees = below_more (λ j. term_at more (place_at (places ++ id ∷ []) j) ≡ lower_term s (term_at olds j)) k (length (places ++ id ∷ [])) longer
-          (λ j l. ap (term_at more) (front j l) ∙ p.terms.stays (place_at places j) (h.within j l) ∙ h.trees j l)
-          (ap (term_at more) here ∙ p.tree ∙ sym (ap (lower_term s) (term_at-is olds keep.lower k x e)));
+      trees = places_more (λ j. tree e (place_at (r.places ++ id ∷ []) j) ≡ lower_term (shapes r.design) (tree r.design j)) k (length (r.places ++ id ∷ [])) longer
+          (λ j l. ap (tree e) (front j l) ∙ p.grows.stays.terms (place_at r.places j) (h.within j l) ∙ h.trees j l)
+          (ap (tree e) here ∙ p.tree ∙ sym (ap (lower_term (shapes r.design)) (term_at-is r.design.exprs read.keeps.arenas.exprs_lower k x at)));
     }
 
--- the lowered trees have the shapes of the trees
-pub lowered_shapes : (s : Shapes) (d : Design) (n : ℕ) (news : List Expr) (places : List ExprId) (hs : List Shape) → ExprsAreSound s n d.exprs → AreShapes s d hs → AreMoved s d.exprs news places → length places ≡ length d.exprs
-    → (k : ℕ) → k < length d.exprs → shape_of s (term_at news (place_at places k)) ≡ shape_at hs k
-lowered_shapes s d n news places hs keep a h e k l = moved_has s d n news places hs (the_expr k) keep a h (omega arith)
+-- the next node of the design
+pub next_node : (r : Read) (x : Expr) → IsRead r → slice_get r.design.exprs (length r.places) ≡ Some x → IsNext r x
+next_node r x read at =
+    let own = item_sound (shapes r.design) (length r.design.signals) r.design.memories r.design.exprs (length r.places) x (sound r.design (arenas r.design read.keeps)) at in
+    record {
+      below = search (lower_at expr_below r.design.exprs read.keeps.arenas.exprs_lower (length r.places) x at);
+      sound = record { below = own.below; shaped = own.shaped; operands = own.operands; parts = own.parts; named = own.named };
+    }

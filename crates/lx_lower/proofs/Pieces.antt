@@ -1,100 +1,125 @@
 -- Assignments to the parts of targets that are put one after the other.
-use Rattle.std.proofs.Common.{◌≡◌, ℕ, ◌+◌, ◌<◌, ◌≤◌, ◌≢◌, Bool, true, false, List, [], ◌∷◌, length, drop, get_or, nat_eq, refl, sym, ap, subst, ◌∙◌, arith, length-drop, eq-eqb, ne_eqb, eqb-true}
-use Rattle.std.specs.Prelude.{Some, slice_get, cond}
-use Rattle.lx_num.specs.declared.Shape.{Shape}
+use Rattle.std.proofs.Common.{◌≡◌, ℕ, zero, suc, ◌+◌, ◌<◌, ◌≤◌, ◌≢◌, Bool, true, false, List, [], ◌∷◌, length, drop, get_or, nat_eq, nat_lt, refl, sym, ap, subst, ◌∙◌, arith, length-drop, eq-eqb, ne_eqb, eqb-true}
+use Rattle.std.specs.Prelude.{cond, IsTrue}
+use Rattle.std.proofs.lemmas.Bool.{and_parts, ltb-true}
+use Rattle.lx_fhdl.specs.declared.exprs.Expr.{Expr}
 use Rattle.lx_circuit.specs.Shapes.{Shapes, shape_of}
 use Rattle.lx_circuit.specs.Statements as tree
-use Rattle.lx_circuit.specs.Statements.{Block, Done, target_bits, NoTarget, MoreTargets}
+use Rattle.lx_circuit.specs.Statements.{Block, Done, sum_bits, target_bits, NoTarget, MoreTargets}
 use Rattle.lx_circuit.specs.Terms.{Term}
-use Rattle.lx_fhdl.specs.Below.{ExprId, TargetId, StmtId}
+use Rattle.lx_fhdl.specs.Below.{ExprId, TargetId, all_targets_below, target_below}
 use Rattle.lx_fhdl.specs.Designs as design
-use Rattle.lx_fhdl.specs.Keeping.{Keeps}
-use Rattle.lx_fhdl.specs.Nodes.{shape_at}
-use Rattle.lx_fhdl.specs.Stmts.{targets_at}
-use Rattle.lx_fhdl.specs.Trees.{term_at}
+use Rattle.lx_fhdl.specs.Designs.{shapes, term}
+use Rattle.lx_fhdl.specs.Keeping.{TargetStands}
+use Rattle.lx_fhdl.specs.Stmts.{node_target, targets_at}
 use Rattle.lx_fhdl.specs.declared.design.Design.{Design}
-use Rattle.lx_fhdl.specs.declared.design.Signal.{Signal}
-use Rattle.lx_fhdl.specs.declared.exprs.Expr.{Expr}
 use Rattle.lx_fhdl.specs.declared.exprs.SigId.{SigId}
 use Rattle.lx_fhdl.specs.declared.stmts.Target.{Target}
 use Rattle.lx_fhdl.specs.declared.stmts.Target.TheVariants as target
 use Rattle.lx_lowering.specs.Flat.{append, when, without_low, is_last, item_assigns, assigns, parts_assigns, items_assigns}
-use Rattle.lx_lower.specs.Drafts.{ExprsKeep, DraftKeeps, CanAddTarget, TermsStay, TermPut, shapes_in}
-use Rattle.lx_lower.specs.Exprs.{ExprsAreLowered, place_at}
-use Rattle.lx_lower.specs.Puts.{term_of, block_of, AreThere, Grows, Put, PutSome}
-use Rattle.lx_lower.specs.Sources.{HasShape, IsLowered, IsReady, RestPut, choice, shapes_for, signals_for}
-use Rattle.lx_lower.specs.declared.blocks.Draft.{Draft}
-use Rattle.lx_lower.specs.declared.exprs.LoweredExprs.{LoweredExprs}
-use Rattle.lx_lower.specs.declared.source.Operand.{Operand}
-use Rattle.lx_lower.specs.declared.source.Source.{Source}
+use Rattle.lx_lowering.specs.Split.{split_block}
+use Rattle.lx_lower.specs.Operands.{HasShape}
+use Rattle.lx_lower.specs.Owned.{AreOwned, CanAssign, Put, PutSome, PutUnder}
+use Rattle.lx_lower.specs.Plain.{Grows, TermPut}
+use Rattle.lx_lower.specs.Ready.{IsReady, RestPut, choice}
+use Rattle.lx_lower.specs.Sources.{IsLowered, Read, place_at}
+use Rattle.lx_lower.specs.declared.operands.Operand.{Operand}
+use Rattle.lx_lower.specs.declared.owned.Own.{Own}
 use Rattle.lx_lower.proofs.Items.{next_item, nothing_left}
-use Rattle.lx_lower.proofs.Kept.{shapes_are}
-use Rattle.lx_lower.proofs.Nodes.{target_stands, node_bits_most}
-use Rattle.lx_lower.proofs.Puts.{put_is, some_is, some_more, some_grown, some_all, under_put}
+use Rattle.lx_lower.proofs.Puts.{as_many, own_kept, owned_kept, some_is, some_more, some_grown, some_all, when_under}
+use Rattle.lx_lower.proofs.Sound.{grows_same, grows_then, same_shapes, term_kept}
+
+-- ---- nodes of the design
+
+-- the tree of a node that is known
+pub node_as : (t : ℕ → Term) (g : ℕ → tree.Target) (u : tree.Target) (x y : Target) → u ≡ node_target t g x → x ≡ y → u ≡ node_target t g y
+node_as t g u x y e f = e ∙ ap (node_target t g) f
+
+pub stands_as : (s : Shapes) (n : ℕ) (xs : List Expr) (x y : Target) → TargetStands s n xs x → x ≡ y → TargetStands s n xs y
+stands_as s n xs x y h e = subst (λ (z : Target). TargetStands s n xs z) e h
+
+pub whole_stands : (s : Shapes) (n : ℕ) (xs : List Expr) (x : Target) (y : SigId) → TargetStands s n xs x → x ≡ target.Whole y → y.0 < n
+whole_stands s n xs x y h e = stands_as s n xs x (target.Whole y) h e
+
+pub most_as : (s : Shapes) (t : ℕ → Term) (g : ℕ → tree.Target) (x y : Target) → target_bits s (node_target t g x) ≤ 127 → x ≡ y → target_bits s (node_target t g y) ≤ 127
+most_as s t g x y h e = subst (λ (z : Target). target_bits s (node_target t g z) ≤ 127) e h
+
+pub cat_most : (s : Shapes) (t : ℕ → Term) (g : ℕ → tree.Target) (x : Target) {parts : List TargetId} → target_bits s (node_target t g x) ≤ 127 → x ≡ target.Cat parts → sum_bits s (targets_at g parts) ≤ 127
+cat_most s t g x {parts} h e = most_as s t g x (target.Cat parts) h e
+
+-- its parts are lower
+pub parts_lower : (k : ℕ) (x : Target) (parts : List TargetId) → IsTrue (target_below x k) → x ≡ target.Cat parts → IsTrue (all_targets_below k parts)
+parts_lower k x parts l e = subst (λ (y : Target). IsTrue (target_below y k)) e l
+
+pub items_lower : (k : ℕ) (x : Target) (items : List TargetId) (index : ExprId) → IsTrue (target_below x k) → x ≡ target.Pick items index → IsTrue (all_targets_below k items)
+items_lower k x items index l e = subst (λ (y : Target). IsTrue (target_below y k)) e l
+
+pub target_below_at : (n : ℕ) (ids : List TargetId) (k : ℕ) (z : TargetId) → IsTrue (all_targets_below n ids) → k < length ids → (get_or ids k z).place < n
+target_below_at n [] k z p h = absurd (omega arith)
+target_below_at n (i ∷ is) zero z p h = ltb-true i.place n (and_parts (nat_lt i.place n) (all_targets_below n is) (search p)).0
+target_below_at n (i ∷ is) (suc k) z p h = target_below_at n is k z (search ((and_parts (nat_lt i.place n) (all_targets_below n is) (search p)).1)) (omega arith)
 
 -- ---- what stays
 
-pub shape_kept : {ss : List Signal} {xs ys : List Expr} {v : Operand} → TermsStay xs ys → HasShape ss xs v → HasShape ss ys v
-shape_kept {ss} {v = v} g h = record { there = omega (arith, h.there, g.longer); shape = ap (shape_of (shapes_in ss)) (g.stays v.id.place h.there) ∙ h.shape }
-
-lowered_kept : {s : Source} {xs ys : List Expr} → TermsStay xs ys → IsLowered s xs → IsLowered s ys
-lowered_kept {s} g h = record {
-  within = λ k l. omega (arith, h.within k l, g.longer);
-  trees = λ k l. g.stays (place_at s.places.now k) (h.within k l) ∙ h.trees k l;
-  shapes = λ k l. ap (shape_of (shapes_for s)) (g.stays (place_at s.places.now k) (h.within k l)) ∙ h.shapes k l;
+pub lowered_kept : {r : Read} {x y : Design} → Grows x y → IsLowered r x → IsLowered r y
+lowered_kept {r} {x} {y} g h = record {
+  signals = g.signals ∙ h.signals;
+  memories = g.memories ∙ h.memories;
+  within = λ k l. omega (arith, h.within k l, g.stays.exprs);
+  trees = λ k l. g.stays.terms (place_at r.places k) (h.within k l) ∙ h.trees k l;
 }
 
 -- a draft that grew is ready, for statements at the end of another list
-pub ready_for : {s : Source} {x y : Draft} {a : List StmtId} (b : List StmtId) → IsReady s x a → Grows (signals_for s) x y → AreThere y b → IsReady s y b
-ready_for b r g there = record { source = r.source; lowered = lowered_kept g.stays.terms r.lowered; draft = g.keeps; there = there }
+pub ready_for : {r : Read} {x y : Design} {a : List Own} (b : List Own) → IsReady r x a → Grows x y → AreOwned y b → IsReady r y b
+ready_for b r g there = record { lowered = lowered_kept g r.lowered; all = r.all; owned = there }
 
--- a draft of lowered expressions without statements
-no_statements : (s : Shapes) (n : ℕ) (xs : List Expr) → ExprsKeep s n xs → DraftKeeps s n xs [] []
-no_statements s n xs keep = record {
-  exprs = keep;
-  targets = record { lower = λ k. tt; there = λ k x e. absurd (cc); bits = λ k l. absurd (omega arith) };
-  stmts = record { lower = λ k. tt; there = λ k x e. absurd (cc) };
-}
+-- the shapes of a draft that is ready are those of the design
+pub ready_shapes : {r : Read} {x y : Design} {a : List Own} → IsReady r x a → Grows x y → shapes y ≡ shapes r.design
+ready_shapes {r} {x} {y} h g = same_shapes r.design y (g.signals ∙ h.lowered.signals)
 
--- it is ready
-pub ready_first : (s : Source) (l : LoweredExprs) (x : Draft) → Keeps s.design.now → ExprsAreLowered (shapes_for s) s.design.now l → s.places.now ≡ l.places → s.shapes.now ≡ l.shapes → x ≡ record { exprs = l.exprs; targets = []; stmts = [] } → IsReady s x []
-ready_first s l x keep lowered places shapes e =
-    let n = λ (k : ℕ) (h : k < length s.design.now.exprs). let m : k < length l.places = omega (arith, lowered.long) in m in
-    let own : IsReady s (record { exprs = l.exprs; targets = []; stmts = [] }) [] = record {
-      source = record { keeps = keep; places = ap length places ∙ lowered.long; shapes = ap length shapes ∙ lowered.long_shapes };
-      lowered = record {
-        within = λ k h. subst (λ (is : List ExprId). place_at is k < length l.exprs) (sym places) (lowered.moved.within k (n k h));
-        trees = λ k h. ap (λ (is : List ExprId). term_at l.exprs (place_at is k)) places ∙ lowered.moved.trees k (n k h);
-        shapes = λ k h. ap (λ (is : List ExprId). shape_of (shapes_for s) (term_at l.exprs (place_at is k))) places ∙ lowered.shapes k h ∙ ap (λ (hs : List Shape). shape_at hs k) (sym shapes);
-      };
-      draft = no_statements (shapes_for s) (length s.design.now.signals) l.exprs lowered.keep;
-      there = search;
-    } in
-    subst (λ (y : Draft). IsReady s y []) (sym e) own
+-- an operand has its shape by the design's signals too
+pub own_shape_is : {r : Read} {d : Design} {a : List Own} {v : Operand} → IsReady r d a → HasShape d v → shape_of (shapes r.design) (term d v.id.place) ≡ v.shape
+own_shape_is {r} {d} {v = v} h s = ap (λ (u : Shapes). shape_of u (term d v.id.place)) (sym (ready_shapes h (grows_same d))) ∙ s.shape
 
 -- ---- a signal, or some of its bits
 
-pub whole_added : (d : Design) (k : ℕ) (y : Target) (x : SigId) (xs : List Expr) (ts : List Target) → Keeps d → slice_get d.targets k ≡ Some y → k < length d.targets → y ≡ target.Whole x → CanAddTarget (shapes_in d.signals) (length d.signals) xs ts (target.Whole x)
-whole_added d k y x xs ts keep e l f =
-    let own : CanAddTarget (design.shapes d) (length d.signals) xs ts (target.Whole x) = record { below = search; there = target_stands d k y (target.Whole x) keep e f; bits = node_bits_most d k y (target.Whole x) keep e f l } in
-    subst (λ (s : Shapes). CanAddTarget s (length d.signals) xs ts (target.Whole x)) (shapes_are d) own
+pub whole_added : (r : Read) (d : Design) (a : List Own) (x : SigId) → IsReady r d a → TargetStands (shapes r.design) (length r.design.signals) r.design.exprs (target.Whole x)
+    → target_bits (shapes r.design) (tree.Whole x.0) ≤ 127 → CanAssign d x.0 (target.Whole x)
+whole_added r d a x h stands bits =
+    let n : x.0 < length d.signals = omega (arith, stands, ap length h.lowered.signals) in
+    record {
+      signal = n;
+      target = record { below = search; stands = n; bits = subst (λ (s : Shapes). target_bits s (tree.Whole x.0) ≤ 127) (sym (ready_shapes h (grows_same d))) bits };
+      plain = eq-eqb x.0 x.0 refl;
+    }
 
-pub part_added : (d : Design) (k : ℕ) (y : Target) (x : SigId) (low len : ℕ) (xs : List Expr) (ts : List Target) → Keeps d → slice_get d.targets k ≡ Some y → k < length d.targets → y ≡ target.Part x low len → CanAddTarget (shapes_in d.signals) (length d.signals) xs ts (target.Part x low len)
-part_added d k y x low len xs ts keep e l f =
-    let own : CanAddTarget (design.shapes d) (length d.signals) xs ts (target.Part x low len) = record { below = search; there = target_stands d k y (target.Part x low len) keep e f; bits = node_bits_most d k y (target.Part x low len) keep e f l } in
-    subst (λ (s : Shapes). CanAddTarget s (length d.signals) xs ts (target.Part x low len)) (shapes_are d) own
+pub part_added : (r : Read) (d : Design) (a : List Own) (x : SigId) (low len : ℕ) → IsReady r d a → TargetStands (shapes r.design) (length r.design.signals) r.design.exprs (target.Part x low len)
+    → target_bits (shapes r.design) (tree.Part x.0 low len) ≤ 127 → CanAssign d x.0 (target.Part x low len)
+part_added r d a x low len h stands bits =
+    let n : x.0 < length d.signals = omega (arith, stands.0, ap length h.lowered.signals) in
+    let same = ready_shapes h (grows_same d) in
+    record {
+      signal = n;
+      target = record {
+        below = search;
+        stands = (n, stands.1, subst (λ (s : Shapes). low + len ≤ (s x.0).bits) (sym same) stands.2);
+        bits = subst (λ (s : Shapes). target_bits s (tree.Part x.0 low len) ≤ 127) (sym same) bits;
+      };
+      plain = eq-eqb x.0 x.0 refl;
+    }
 
 -- ---- parts side by side
 
-pub rest_put : (s : Source) (old new : List Expr) (w v : Operand) (k low : ℕ) → HasShape (signals_for s) old w → v.shape ≡ w.shape → low ≡ target_bits (design.shapes s.design.now) (design.target s.design.now k)
-    → TermPut old new v.id.place (without_low (shapes_for s) low (term_at old w.id.place)) → RestPut s old new w v k false
-rest_put s old new w v k low h e f p =
-    let same : target_bits (design.shapes s.design.now) (design.target s.design.now k) ≡ target_bits (shapes_for s) (design.target s.design.now k) = ap (λ (r : Shapes). target_bits r (design.target s.design.now k)) (shapes_are s.design.now) in
-    record {
-      terms = p.terms;
-      shape = record { there = p.within; shape = ap (shape_of (shapes_for s)) p.tree ∙ h.shape ∙ sym e };
-      tree = λ g. p.tree ∙ ap (λ (n : ℕ). without_low (shapes_for s) n (term_at old w.id.place)) (f ∙ same);
-    }
+pub rest_put : (r : Read) (x y : Design) (w v : Operand) (k low : ℕ) → HasShape x w → v.shape ≡ w.shape → low ≡ target_bits (shapes r.design) (design.target r.design k)
+    → TermPut x y v.id.place (without_low (shapes x) low (term x w.id.place)) → RestPut r x y w v k false
+rest_put r x y w v k low h e f p = record {
+  grows = p.grows;
+  shape = record { there = p.within; shape = ap (λ (s : Shapes). shape_of s (term y v.id.place)) (same_shapes x y p.grows.signals) ∙ ap (shape_of (shapes x)) p.tree ∙ h.shape ∙ sym e };
+  tree = λ g. p.tree ∙ ap (λ (n : ℕ). without_low (shapes x) n (term x w.id.place)) f;
+}
+
+pub rest_none : (r : Read) (x : Design) (w : Operand) (k : ℕ) → HasShape x w → RestPut r x x w w k true
+rest_none r x w k h = record { grows = grows_same x; shape = h; tree = λ e. absurd (cc) }
 
 -- the parts after one of them, from the number without its bits
 pub parts_next : (s : Shapes) (g : ℕ → tree.Target) (xs : List TargetId) (k : ℕ) (z : TargetId) (e f : Term) (last : Bool) → k < length xs → last ≡ nat_eq (k + 1) (length xs) → (last ≡ false → f ≡ without_low s (target_bits s (g (get_or xs k z).place)) e)
@@ -135,23 +160,32 @@ items_next s g xs k z i e last l m h =
         ap (λ (b : Bool). append (when (choice s i k b) own) (items_assigns s (k + 1) (targets_at g (y ∷ ys)) i e)) (sym (h ∙ ne_eqb (k + 1) (length xs) n))
 
 -- one item more
-pub items_more : (s : Shapes) (g : ℕ → tree.Target) (xs : List TargetId) (k : ℕ) (d : TargetId) (i e f h : Term) (last : Bool) (test : ℕ) {ss : List Signal} {u x y z w : Draft} {own a b c : List StmtId} {whole : Block} → k < length xs → length xs ≢ 1 → last ≡ nat_eq (k + 1) (length xs) → f ≡ e → h ≡ i
-    → PutSome ss u x a b whole (items_assigns s k (targets_at g (drop k xs)) i e) → Put ss x y [] own (assigns s (g (get_or xs k d).place) f) → Grows ss y z → term_of z test ≡ choice s h k last → Put ss z w b c (when (term_of z test) (block_of z own))
-    → PutSome ss u w a c whole (items_assigns s (k + 1) (targets_at g (drop (k + 1) xs)) i e)
-items_more s g xs k d i e f h last test l m n o q p own grows r when =
+pub items_more : (s : Shapes) (g : ℕ → tree.Target) (xs : List TargetId) (k : ℕ) (d : TargetId) (i e f h : Term) (last : Bool) (test : ℕ) {u x y z w : Design} {then_ a b c : List Own} {whole : Block} → k < length xs → length xs ≢ 1 → last ≡ nat_eq (k + 1) (length xs) → f ≡ e → h ≡ i
+    → PutSome u x a b whole (items_assigns s k (targets_at g (drop k xs)) i e) → Put x y [] then_ (assigns s (g (get_or xs k d).place) f) → shapes y ≡ s → TermPut y z test (choice (shapes y) h k last) → PutUnder z w b c (term z test) then_ []
+    → PutSome u w a c whole (items_assigns s (k + 1) (targets_at g (drop (k + 1) xs)) i e)
+items_more s g xs k d i e f h last test {z = z} {then_ = then_} {b = b} l m n o q p own sy r when_ =
+    let tree : term z test ≡ choice s i k last = r.tree ∙ ap (λ (v : Shapes). choice v h k last) sy ∙ ap (λ (j : Term). choice s j k last) q in
     some_more
-    (some_is (items_next s g xs k d i e last l m n) (some_grown (some_grown p own.grows) grows))
-    (under_put test (put_is (ap (assigns s (g (get_or xs k d).place)) o) own) grows (r ∙ ap (λ (j : Term). choice s j k last) q) when)
+    (some_is (items_next s g xs k d i e last l m n) p)
+    (when_under test (grows_then own.grows r.grows) p.owned (owned_kept then_ r.grows own.owned)
+    (λ j t. own_kept then_ j r.grows own.owned ∙ own.own j (omega (arith, as_many r.grows)) ∙ ap (λ (v : Term). split_block j (assigns s (g (get_or xs k d).place) v)) o) tree when_)
 
-pub items_done : (s : Shapes) (g : ℕ → tree.Target) (xs : List TargetId) (k : ℕ) (i e : Term) {ss : List Signal} {u x : Draft} {a b : List StmtId} {whole : Block} → length xs ≤ k → PutSome ss u x a b whole (items_assigns s k (targets_at g (drop k xs)) i e) → Put ss u x a b whole
+pub items_done : (s : Shapes) (g : ℕ → tree.Target) (xs : List TargetId) (k : ℕ) (i e : Term) {u x : Design} {a b : List Own} {whole : Block} → length xs ≤ k → PutSome u x a b whole (items_assigns s k (targets_at g (drop k xs)) i e) → Put u x a b whole
 items_done s g xs k i e l p = some_all (some_is (ap (λ (ys : List TargetId). items_assigns s k (targets_at g ys) i e) (nothing_left xs k l)) p)
 
 -- one part more
-pub parts_more : (s : Shapes) (g : ℕ → tree.Target) (xs : List TargetId) (k : ℕ) (d : TargetId) (e f : Term) (last : Bool) {ss : List Signal} {u x y z : Draft} {a b c : List StmtId} {whole : Block} → k < length xs → last ≡ nat_eq (k + 1) (length xs)
+pub parts_more : (s : Shapes) (g : ℕ → tree.Target) (xs : List TargetId) (k : ℕ) (d : TargetId) (e f : Term) (last : Bool) {u x y z : Design} {a b c : List Own} {whole : Block} → k < length xs → last ≡ nat_eq (k + 1) (length xs)
     → (last ≡ false → f ≡ without_low s (target_bits s (g (get_or xs k d).place)) e)
-    → PutSome ss u x a b whole (parts_assigns s (targets_at g (drop k xs)) e) → Put ss x y b c (assigns s (g (get_or xs k d).place) e) → Grows ss y z
-    → PutSome ss u z a c whole (parts_assigns s (targets_at g (drop (k + 1) xs)) f)
+    → PutSome u x a b whole (parts_assigns s (targets_at g (drop k xs)) e) → Put x y b c (assigns s (g (get_or xs k d).place) e) → Grows y z
+    → PutSome u z a c whole (parts_assigns s (targets_at g (drop (k + 1) xs)) f)
 parts_more s g xs k d e f last l n o p q grows = some_grown (some_more (some_is (parts_next s g xs k d e f last l n o) p) q) grows
 
-pub parts_done : (s : Shapes) (g : ℕ → tree.Target) (xs : List TargetId) (k : ℕ) (e : Term) {ss : List Signal} {u x : Draft} {a b : List StmtId} {whole : Block} → length xs ≤ k → PutSome ss u x a b whole (parts_assigns s (targets_at g (drop k xs)) e) → Put ss u x a b whole
+pub parts_done : (s : Shapes) (g : ℕ → tree.Target) (xs : List TargetId) (k : ℕ) (e : Term) {u x : Design} {a b : List Own} {whole : Block} → length xs ≤ k → PutSome u x a b whole (parts_assigns s (targets_at g (drop k xs)) e) → Put u x a b whole
 parts_done s g xs k e l p = some_all (some_is (ap (λ (ys : List TargetId). parts_assigns s (targets_at g ys) e) (nothing_left xs k l)) p)
+
+-- the number of the parts after this one
+pub rest_as : {r : Read} {x y z : Design} {v w : Operand} {k : ℕ} (last : Bool) (s : Shapes) → shapes y ≡ s → v.id.place < length x.exprs → Grows x y → RestPut r y z v w k last → last ≡ false
+    → term z w.id.place ≡ without_low s (target_bits (shapes r.design) (design.target r.design k)) (term x v.id.place)
+rest_as {r} {y = y} {v = v} {k = k} last s sy there g p e =
+    let low = target_bits (shapes r.design) (design.target r.design k) in
+    p.tree e ∙ ap (λ (u : Shapes). without_low u low (term y v.id.place)) sy ∙ ap (without_low s low) (term_kept v.id.place g there)

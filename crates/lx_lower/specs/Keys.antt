@@ -1,17 +1,18 @@
 -- Keys of arms, and the conditions that an expression is one of them or none.
-use Rattle.std.specs.Prelude.{◌≡◌, ℕ, ℤ, List, [], ◌∷◌, Option, Some, None, ◌<◌, length}
-use Rattle.lx_num.specs.Ints.{unsigned}
-use Rattle.lx_circuit.specs.Shapes.{Shapes, shape_of}
+use Rattle.std.specs.Prelude.{◌≡◌, ℕ, ℤ, pos, Bool, false, not, ◌&&◌, List, [], ◌∷◌, Option, Some, None, ◌<◌, length, slice_index_or, take}
+use Rattle.std.specs.Ordering.{int_eq}
+use Rattle.lx_num.specs.declared.Shape.{Shape}
+use Rattle.lx_num.specs.Ints.{wrapped}
+use Rattle.lx_circuit.specs.Shapes.{Shapes}
 use Rattle.lx_circuit.specs.Statements as tree
 use Rattle.lx_circuit.specs.Terms.{Term}
 use Rattle.lx_fhdl.specs.Below.{ExprId}
+use Rattle.lx_fhdl.specs.Designs.{term}
 use Rattle.lx_fhdl.specs.Stmts.{block_at}
-use Rattle.lx_fhdl.specs.Trees.{term_at}
-use Rattle.lx_fhdl.specs.declared.design.Signal.{Signal}
-use Rattle.lx_fhdl.specs.declared.exprs.Expr.{Expr}
+use Rattle.lx_fhdl.specs.declared.design.Design.{Design}
 use Rattle.lx_fhdl.specs.declared.stmts.Arm.{Arm}
-use Rattle.lx_lowering.specs.Flat.{append, some_when, is_key, no_key, flat_block}
-use Rattle.lx_lower.specs.Drafts.{TermsStay, shapes_in}
+use Rattle.lx_lowering.specs.Flat.{append, is_among_keys, some_when, is_key, no_key, flat_block}
+use Rattle.lx_lower.specs.Plain.{Grows, IsBit}
 
 -- the keys of arms, the last one first, before others
 abbrev pub keys_onto : List ℤ → List Arm → List ℤ
@@ -21,24 +22,35 @@ keys_onto seen (a ∷ more) = keys_onto (a.key ∷ seen) more
 abbrev pub seen_keys : List Arm → List ℤ
 seen_keys arms = keys_onto [] arms
 
--- a condition of one bit
-pub record IsBit (ss : List Signal) (xs : List Expr) (k : ℕ) : Type 0 where
-  pub there : k < length xs
-  pub bit : shape_of (shapes_in ss) (term_at xs k) ≡ unsigned 1
+-- the key of arm k
+abbrev pub key_at : List Arm → ℕ → ℤ
+key_at arms k = (slice_index_or arms k (record { key = pos 0; body = [] })).key
 
--- where there is one
-abbrev pub AreBits : List Signal → List Expr → Option ExprId → Type 0
-AreBits ss xs None = Unit {0}
-AreBits ss xs (Some i) = IsBit ss xs i.place
+-- it is a value of the shape, and stands in no arm before
+abbrev pub is_fresh : Shape → List Arm → ℕ → Bool
+is_fresh a arms k = int_eq (wrapped a (key_at arms k)) (key_at arms k) && not (is_among_keys (key_at arms k) (seen_keys (take k arms)))
 
-abbrev pub none_of : List Expr → Option ExprId → Option Term
-none_of xs None = None
-none_of xs (Some i) = Some (term_at xs i.place)
+abbrev pub fresh_at : List Bool → ℕ → Bool
+fresh_at fresh k = slice_index_or fresh k false
+
+-- for the first n arms, whether their keys are fresh
+pub record AreFresh (a : Shape) (arms : List Arm) (n : ℕ) (fresh : List Bool) : Type 0 where
+  pub long : length fresh ≡ n
+  pub each : (k : ℕ) → k < n → fresh_at fresh k ≡ is_fresh a arms k
+
+-- a condition of one bit, where there is one
+abbrev pub AreBits : Design → Option ExprId → Type 0
+AreBits d None = Unit {0}
+AreBits d (Some i) = IsBit d i.place
+
+abbrev pub none_of : Design → Option ExprId → Option Term
+none_of d None = None
+none_of d (Some i) = Some (term d i.place)
 
 -- a condition that stands for no arm's key
-pub record NonePut (ss : List Signal) (old new : List Expr) (none : Option ExprId) (t : Option Term) : Type 0 where
-  pub terms : TermsStay old new
-  pub bit : AreBits ss new none
+pub record NonePut (old new : Design) (none : Option ExprId) (t : Option Term) : Type 0 where
+  pub grows : Grows old new
+  pub bit : AreBits new none
   pub tree : none_of new none ≡ t
 
 -- the condition that an expression is no key of arms

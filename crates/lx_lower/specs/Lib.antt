@@ -1,12 +1,11 @@
-pub mod Drafts
-pub mod Drivers
 pub mod Exprs
 pub mod Fixed
 pub mod Keys
 pub mod Lists
 pub mod Lowers
-pub mod Over
-pub mod Parts
-pub mod Puts
+pub mod Operands
+pub mod Owned
+pub mod Plain
+pub mod Ready
 pub mod Sources
 pub mod Tests

@@ -1,29 +1,23 @@
--- Lowering of a design: the same signals, domains, ports and runs, and one list of plain statements for each signal.
-use Rattle.std.specs.Prelude.{◌≡◌, length}
+-- Lowering of a design: the same signals, memories, domains, ports and runs, and one list of plain statements for each
+-- signal.
+use Rattle.std.specs.Prelude.{◌≡◌}
 use Rattle.lx_fhdl.specs.Designs.{circuit_of}
 use Rattle.lx_fhdl.specs.Keeping.{Keeps}
 use Rattle.lx_fhdl.specs.Lowered.{IsLowered}
 use Rattle.lx_fhdl.specs.declared.design.Design.{Design}
 use Rattle.lx_lowering.specs.Lowering as lowering
 use Rattle.lx_lowering.specs.Lowering.{Lowers}
-use Rattle.lx_lower.specs.Parts.{AreParts, flat_comb, flat_sync, folded_split, split_lists}
-use Rattle.lx_lower.specs.Puts.{AreThere, IsDraft, block_of}
-use Rattle.lx_lower.specs.declared.whole.BySignals.{BySignals}
 
--- the statements of a design by signals
-pub record AreBySignals (d : Design) (w : BySignals) : Type 0 where
-  pub draft : IsDraft d.signals w.draft
-  pub there : AreThere w.draft w.comb
-  pub comb : block_of w.draft w.comb ≡ folded_split d.signals (flat_comb d)
-  pub sync : AreParts w.draft (length d.domains) w.sync (λ k. split_lists d.signals (flat_sync d k))
-
--- A lowered design keeps what a design keeps, has the signals, domains and ports of the design, and means exactly its
--- lowered circuit: so it has every run of the design and no other, and an order of its reads where the design has one.
+-- A lowered design keeps what a design keeps, has the signals, memories, domains and ports of the design, and means
+-- exactly its lowered circuit: so it has every run of the design and no other, no signal has another driver, and its
+-- reads have an order where the design's have one.
 pub record IsLoweringOf (d e : Design) : Type 0 where
   pub keeps : Keeps e
   pub lowered : IsLowered e
   pub signals : e.signals ≡ d.signals
+  pub memories : e.memories ≡ d.memories
   pub domains : e.domains ≡ d.domains
+  pub ports : e.ports ≡ d.ports
   pub ios : e.ios ≡ d.ios
   pub circuit : circuit_of e ≡ lowering.lowered (circuit_of d)
   pub lowers : Lowers (circuit_of d) (circuit_of e)

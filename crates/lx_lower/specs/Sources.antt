@@ -1,63 +1,91 @@
--- A design whose expressions are lowered, and the draft where they hang.
-use Rattle.std.specs.Prelude.{◌≡◌, ℕ, Bool, true, false, List, ◌<◌, length}
-use Rattle.lx_circuit.specs.Shapes.{Shapes, shape_of}
-use Rattle.lx_circuit.specs.Statements.{target_bits}
-use Rattle.lx_circuit.specs.Terms.{Term}
-use Rattle.lx_fhdl.specs.Below.{StmtId}
-use Rattle.lx_fhdl.specs.Designs as design
+-- A design that is read, and the draft where its lowered expressions hang.
+use Rattle.std.specs.Prelude.{◌≡◌, ℕ, false, List, None, ◌<◌, ◌≤◌, length, map, slice_index_or, IsTrue}
+use Rattle.lx_num.specs.declared.Shape.{Shape}
+use Rattle.lx_circuit.specs.Shapes.{joined, pick_fault, shape_of, shapes_of, too_wide}
+use Rattle.lx_fhdl.specs.Below.{ExprId, all_below, expr_below}
+use Rattle.lx_fhdl.specs.Designs.{shapes, term}
+use Rattle.lx_fhdl.specs.Drafts.{CanAddExpr}
+use Rattle.lx_fhdl.specs.Instance.{the_expr}
 use Rattle.lx_fhdl.specs.Keeping.{Keeps}
-use Rattle.lx_fhdl.specs.Nodes.{shape_at}
-use Rattle.lx_fhdl.specs.Trees.{term_at}
+use Rattle.lx_fhdl.specs.Nodes.{HasParts, node_fault, shape_at}
+use Rattle.lx_fhdl.specs.Trees.{terms_at}
+use Rattle.lx_fhdl.specs.declared.design.Design.{Design}
 use Rattle.lx_fhdl.specs.declared.design.Signal.{Signal}
 use Rattle.lx_fhdl.specs.declared.exprs.Expr.{Expr}
-use Rattle.lx_lowering.specs.Flat.{without_low, is_last}
-use Rattle.lx_lowering.specs.Terms.{is_item, lower_term}
-use Rattle.lx_lower.specs.Drafts.{TermsStay, shapes_in}
-use Rattle.lx_lower.specs.Exprs.{place_at}
-use Rattle.lx_lower.specs.Puts.{IsDraft, AreThere}
-use Rattle.lx_lower.specs.declared.blocks.Draft.{Draft}
-use Rattle.lx_lower.specs.declared.source.Operand.{Operand}
-use Rattle.lx_lower.specs.declared.source.Source.{Source}
+use Rattle.lx_fhdl.specs.declared.exprs.Expr.TheVariants.{Const, Sig, Unary, Binary, Mux, Cat, Pick, Replicate, Slice, Fetch}
+use Rattle.lx_lowering.specs.Terms.{lower_term}
+use Rattle.lx_width.specs.Width.{NamesBelow}
 
--- an expression that is there, of this shape
-pub record HasShape (ss : List Signal) (xs : List Expr) (v : Operand) : Type 0 where
-  pub there : v.id.place < length xs
-  pub shape : shape_of (shapes_in ss) (term_at xs v.id.place) ≡ v.shape
+-- a design, the shapes of its expressions, and the new places of the first ones
+pub record Read : Type 0 where
+  pub design : Design
+  pub shapes : List Shape
+  pub places : List ExprId
 
-abbrev pub signals_for : Source → List Signal
-signals_for s = s.design.now.signals
+-- the shapes of all expressions
+pub record AreShapes (d : Design) (hs : List Shape) : Type 0 where
+  pub long : length hs ≡ length d.exprs
+  pub each : (k : ℕ) → k < length d.exprs → shape_at hs k ≡ shape_of (shapes d) (term d k)
 
-abbrev pub shapes_for : Source → Shapes
-shapes_for s = shapes_in s.design.now.signals
+pub record IsRead (r : Read) : Type 0 where
+  pub keeps : Keeps r.design
+  pub sized : AreShapes r.design r.shapes
+  pub most : length r.places ≤ length r.design.exprs
 
--- a design that keeps what it must, with a place and a shape for each expression
-pub record IsSource (s : Source) : Type 0 where
-  pub keeps : Keeps s.design.now
-  pub places : length s.places.now ≡ length s.design.now.exprs
-  pub shapes : length s.shapes.now ≡ length s.design.now.exprs
+abbrev pub place_at : List ExprId → ℕ → ℕ
+place_at places k = (slice_index_or places k (the_expr 0)).place
 
--- the lowered tree of each expression hangs at its place, with its shape
-pub record IsLowered (s : Source) (xs : List Expr) : Type 0 where
-  pub within : (k : ℕ) → k < length s.design.now.exprs → place_at s.places.now k < length xs
-  pub trees : (k : ℕ) → k < length s.design.now.exprs → term_at xs (place_at s.places.now k) ≡ lower_term (shapes_for s) (design.term s.design.now k)
-  pub shapes : (k : ℕ) → k < length s.design.now.exprs → shape_of (shapes_for s) (term_at xs (place_at s.places.now k)) ≡ shape_at s.shapes.now k
+-- the signals and memories are the same, and the lowered tree of each of these expressions hangs at its place
+pub record IsLowered (r : Read) (d : Design) : Type 0 where
+  pub signals : d.signals ≡ r.design.signals
+  pub memories : d.memories ≡ r.design.memories
+  pub within : (k : ℕ) → k < length r.places → place_at r.places k < length d.exprs
+  pub trees : (k : ℕ) → k < length r.places → term d (place_at r.places k) ≡ lower_term (shapes r.design) (term r.design k)
 
--- ready for statements at the end of a list
-pub record IsReady (s : Source) (x : Draft) (ids : List StmtId) : Type 0 where
-  pub source : IsSource s
-  pub lowered : IsLowered s x.exprs
-  pub draft : IsDraft (signals_for s) x
-  pub there : AreThere x ids
+-- a node of the design over expressions that have their new places
+pub record IsNext (r : Read) (x : Expr) : Type 0 where
+  pub below : IsTrue (expr_below x (length r.places))
+  pub sound : CanAddExpr r.design x
 
--- ---- targets
+-- a node over expressions with these shapes, without a fault
+pub record IsSoundNode (signals : List Signal) (hs : List Shape) (x : Expr) : Type 0 where
+  pub below : IsTrue (expr_below x (length hs))
+  pub named : NamesBelow (length signals) x
+  pub parts : HasParts x
+  pub sound : node_fault hs x ≡ None
 
--- the index picks item number k
-abbrev pub choice : Shapes → Term → ℕ → Bool → Term
-choice s i k false = is_item s i k
-choice s i k true = is_last s i k
+-- ---- expressions
 
--- the number v, of the part after part k, is w without the bits of this part
-pub record RestPut (s : Source) (old new : List Expr) (w v : Operand) (k : ℕ) (last : Bool) : Type 0 where
-  pub terms : TermsStay old new
-  pub shape : HasShape (signals_for s) new v
-  pub tree : last ≡ false → term_at new v.id.place ≡ without_low (shapes_for s) (target_bits (shapes_for s) (design.target s.design.now k)) (term_at old w.id.place)
+-- the new place of an expression, from those of all
+abbrev pub moved_to : List ExprId → ExprId → ExprId
+moved_to places id = slice_index_or places id.place (the_expr 0)
+
+-- a node whose children are at their new places
+abbrev pub moved_node : List ExprId → Expr → Expr
+moved_node places (Const value bits signed) = Const value bits signed
+moved_node places (Sig x) = Sig x
+moved_node places (Unary op of) = Unary op (moved_to places of)
+moved_node places (Binary op left right) = Binary op (moved_to places left) (moved_to places right)
+moved_node places (Mux cond then_ else_) = Mux (moved_to places cond) (moved_to places then_) (moved_to places else_)
+moved_node places (Cat parts) = Cat (map (moved_to places) parts)
+moved_node places (Pick items index) = Pick (map (moved_to places) items) (moved_to places index)
+moved_node places (Replicate of count) = Replicate (moved_to places of) count
+moved_node places (Slice of low high) = Slice (moved_to places of) low high
+moved_node places (Fetch memory width at) = Fetch memory width (moved_to places at)
+
+-- an unsigned amount
+pub record IsAmount (d : Design) (k : ℕ) : Type 0 where
+  pub there : k < length d.exprs
+  pub plain : (shape_of (shapes d) (term d k)).signed ≡ false
+
+-- two expressions that a condition can choose between
+pub record CanChoose (d : Design) (yes no : ExprId) : Type 0 where
+  pub yes_there : yes.place < length d.exprs
+  pub no_there : no.place < length d.exprs
+  pub sound : too_wide (joined (shape_of (shapes d) (term d yes.place)) (shape_of (shapes d) (term d no.place))).bits ≡ None
+
+-- items that an index of this shape can pick
+pub record CanPick (d : Design) (items : List ExprId) (index : Shape) : Type 0 where
+  pub some : 0 < length items
+  pub there : IsTrue (all_below (length d.exprs) items)
+  pub sound : pick_fault (shapes_of (shapes d) (terms_at (term d) items)) index ≡ None

@@ -1,130 +1,97 @@
 //! Conditions and shifted numbers that lowered statements need: each is one expression over those that stand already.
 
-ghost use Rattle.std.specs.Prelude.{◌≡◌, ◌<◌, ◌^◌, false, true, nat_lt, length, IfOk, None};
-ghost use Rattle.lx_num.specs.Ints.{shape, unsigned};
-ghost use Rattle.lx_circuit.specs.Operands.{is_binary};
-ghost use Rattle.lx_circuit.specs.Shapes.{binary_fault, shape_of};
+ghost use Rattle.std.specs.Prelude.{◌≡◌, ◌^◌, true, nat_lt, IfOk};
 ghost use Rattle.lx_circuit.specs.Terms.{Binary, Constant};
+ghost use Rattle.lx_fhdl.specs.Designs.{shapes, term};
 ghost use Rattle.lx_fhdl.specs.Nodes.{IsSmall};
-ghost use Rattle.lx_fhdl.specs.Trees.{term_at};
 ghost use Rattle.lx_lowering.specs.Flat.{fails, holds, is_last, key_of, without_low};
 ghost use Rattle.lx_lowering.specs.Terms.{is_item, never};
-ghost use Rattle.lx_lower.specs.Drafts.{ExprsKeep, TermPut, shapes_in};
+ghost use Rattle.lx_lower.specs.Operands.{CanJoin, HasShape};
+ghost use Rattle.lx_lower.specs.Plain.{IsBit, TermPut};
 ghost use Rattle.lx_lower.specs.Tests.{is_test};
 
-use crate::drafts::push_expr;
-use lx_fhdl::{Expr, ExprId, Exprs, Signal};
+use crate::operands::Operand;
+use crate::plain::PlainDraft;
+use lx_fhdl::{Expr, ExprId};
 use lx_num::Shape;
 use lx_tables::Op;
 use lx_text::NoMemory;
 
 /// Adds a number of a shape.
-pub fn push_constant(
-    signals: &[Signal],
-    exprs: &mut Exprs,
-    value: i128,
-    shape: Shape,
-) -> Result<ExprId, NoMemory>
-    requires keep { ExprsKeep (shapes_in signals.now) (length signals.now) exprs.old }
-    requires small { IsSmall shape }
-    ensures ok { IfOk result (λ id. TermPut exprs.old exprs.new id.place (Constant value shape)) }
-    ensures keep { ExprsKeep (shapes_in signals.now) (length signals.now) exprs.new }
+#[tactic(auto, using(crate::proofs::Conditions::term_put))]
+pub fn push_constant(draft: &mut PlainDraft, value: i128, shape: Shape) -> Result<ExprId, NoMemory>
+    requires { IsSmall shape }
+    ensures { IfOk result (λ id. TermPut draft.old draft.new id.place (Constant value shape)) }
 {
     let node = Expr::Const {
         value,
         bits: shape.bits as u32,
         signed: shape.signed,
     };
-    push_expr(signals, exprs, node)
+    let id = draft.push_expr(node)?;
+    Ok(id)
 }
 
 /// Adds an operator of two expressions.
+#[tactic(auto, using(crate::proofs::Conditions::binary_added, crate::proofs::Conditions::term_put))]
 pub fn push_binary(
-    signals: &[Signal],
-    exprs: &mut Exprs,
+    draft: &mut PlainDraft,
     op: Op,
     left: ExprId,
     right: ExprId,
 ) -> Result<ExprId, NoMemory>
-    requires keep { ExprsKeep (shapes_in signals.now) (length signals.now) exprs.old }
-    requires op { is_binary op ≡ true }
-    requires left { left.place < length exprs.old }
-    requires right { right.place < length exprs.old }
-    requires sound { binary_fault op (shape_of (shapes_in signals.now) (term_at exprs.old left.place)) (shape_of (shapes_in signals.now) (term_at exprs.old right.place)) ≡ None }
-    ensures ok { IfOk result (λ id. TermPut exprs.old exprs.new id.place (Binary op (term_at exprs.old left.place) (term_at exprs.old right.place))) }
-    ensures keep { ExprsKeep (shapes_in signals.now) (length signals.now) exprs.new }
+    requires { CanJoin draft.old op left right }
+    ensures { IfOk result (λ id. TermPut draft.old draft.new id.place (Binary op (term draft.old left.place) (term draft.old right.place))) }
 {
-    push_expr(signals, exprs, Expr::Binary { op, left, right })
+    draft.keeps();
+    let id = draft.push_expr(Expr::Binary { op, left, right })?;
+    Ok(id)
 }
 
+#[tactic(auto, using(crate::proofs::Conditions::can_test, crate::proofs::Conditions::number_put, crate::proofs::Sound::small_shape))]
 /// Adds a comparison of an expression with a number of its shape.
 pub fn push_test(
-    signals: &[Signal],
-    exprs: &mut Exprs,
+    draft: &mut PlainDraft,
     op: Op,
-    of: ExprId,
+    of: Operand,
     value: i128,
-    shape: Shape,
 ) -> Result<ExprId, NoMemory>
-    requires keep { ExprsKeep (shapes_in signals.now) (length signals.now) exprs.old }
     requires op { is_test op ≡ true }
-    requires of { of.place < length exprs.old }
-    requires shape { shape_of (shapes_in signals.now) (term_at exprs.old of.place) ≡ shape }
-    ensures ok { IfOk result (λ id. TermPut exprs.old exprs.new id.place (Binary op (term_at exprs.old of.place) (Constant value (shape_of (shapes_in signals.now) (term_at exprs.old of.place))))) }
-    ensures keep { ExprsKeep (shapes_in signals.now) (length signals.now) exprs.new }
+    requires of { HasShape draft.old of }
+    ensures { IfOk result (λ id. TermPut draft.old draft.new id.place (Binary op (term draft.old of.id.place) (Constant value of.shape))) }
 {
-    let number = push_constant(signals, exprs, value, shape)?;
-    push_binary(signals, exprs, op, of, number)
+    draft.keeps();
+    let number = push_constant(draft, value, of.shape)?;
+    let id = push_binary(draft, op, of.id, number)?;
+    Ok(id)
 }
 
 /// Adds the condition that an expression is not 0.
-pub fn push_holds(
-    signals: &[Signal],
-    exprs: &mut Exprs,
-    cond: ExprId,
-    shape: Shape,
-) -> Result<ExprId, NoMemory>
-    requires keep { ExprsKeep (shapes_in signals.now) (length signals.now) exprs.old }
-    requires cond { cond.place < length exprs.old }
-    requires shape { shape_of (shapes_in signals.now) (term_at exprs.old cond.place) ≡ shape }
-    ensures ok { IfOk result (λ id. TermPut exprs.old exprs.new id.place (holds (shapes_in signals.now) (term_at exprs.old cond.place))) }
-    ensures keep { ExprsKeep (shapes_in signals.now) (length signals.now) exprs.new }
+#[tactic(auto, using(crate::proofs::Conditions::own_shape))]
+pub fn push_holds(draft: &mut PlainDraft, cond: Operand) -> Result<ExprId, NoMemory>
+    requires { HasShape draft.old cond }
+    ensures { IfOk result (λ id. TermPut draft.old draft.new id.place (holds (shapes draft.old) (term draft.old cond.id.place))) }
 {
-    push_test(signals, exprs, Op::Ne, cond, 0, shape)
+    push_test(draft, Op::Ne, cond, 0)
 }
 
 /// Adds the condition that an expression is 0.
-pub fn push_fails(
-    signals: &[Signal],
-    exprs: &mut Exprs,
-    cond: ExprId,
-    shape: Shape,
-) -> Result<ExprId, NoMemory>
-    requires keep { ExprsKeep (shapes_in signals.now) (length signals.now) exprs.old }
-    requires cond { cond.place < length exprs.old }
-    requires shape { shape_of (shapes_in signals.now) (term_at exprs.old cond.place) ≡ shape }
-    ensures ok { IfOk result (λ id. TermPut exprs.old exprs.new id.place (fails (shapes_in signals.now) (term_at exprs.old cond.place))) }
-    ensures keep { ExprsKeep (shapes_in signals.now) (length signals.now) exprs.new }
+#[tactic(auto, using(crate::proofs::Conditions::own_shape))]
+pub fn push_fails(draft: &mut PlainDraft, cond: Operand) -> Result<ExprId, NoMemory>
+    requires { HasShape draft.old cond }
+    ensures { IfOk result (λ id. TermPut draft.old draft.new id.place (fails (shapes draft.old) (term draft.old cond.id.place))) }
 {
-    push_test(signals, exprs, Op::Eq, cond, 0, shape)
+    push_test(draft, Op::Eq, cond, 0)
 }
 
 /// Adds the condition that both conditions hold, of one bit each.
-pub fn push_and(
-    signals: &[Signal],
-    exprs: &mut Exprs,
-    left: ExprId,
-    right: ExprId,
-) -> Result<ExprId, NoMemory>
-    requires keep { ExprsKeep (shapes_in signals.now) (length signals.now) exprs.old }
-    requires left { left.place < length exprs.old }
-    requires right { right.place < length exprs.old }
-    requires left_bit { shape_of (shapes_in signals.now) (term_at exprs.old left.place) ≡ unsigned 1 }
-    requires right_bit { shape_of (shapes_in signals.now) (term_at exprs.old right.place) ≡ unsigned 1 }
-    ensures ok { IfOk result (λ id. TermPut exprs.old exprs.new id.place (Binary Op.And (term_at exprs.old left.place) (term_at exprs.old right.place))) }
-    ensures keep { ExprsKeep (shapes_in signals.now) (length signals.now) exprs.new }
+#[tactic(auto, using(crate::proofs::Conditions::bits_join))]
+pub fn push_and(draft: &mut PlainDraft, left: ExprId, right: ExprId) -> Result<ExprId, NoMemory>
+    requires left { IsBit draft.old left.place }
+    requires right { IsBit draft.old right.place }
+    ensures { IfOk result (λ id. TermPut draft.old draft.new id.place (Binary Op.And (term draft.old left.place) (term draft.old right.place))) }
 {
-    push_binary(signals, exprs, Op::And, left, right)
+    push_binary(draft, Op::And, left, right)
 }
 
 /// Whether a number is less than 2 to the bits.
@@ -136,112 +103,79 @@ fn is_below(number: usize, bits: u8) -> bool
 }
 
 /// Adds the condition that never holds.
-pub fn push_never(signals: &[Signal], exprs: &mut Exprs) -> Result<ExprId, NoMemory>
-    requires keep { ExprsKeep (shapes_in signals.now) (length signals.now) exprs.old }
-    ensures ok { IfOk result (λ id. TermPut exprs.old exprs.new id.place never) }
-    ensures keep { ExprsKeep (shapes_in signals.now) (length signals.now) exprs.new }
+pub fn push_never(draft: &mut PlainDraft) -> Result<ExprId, NoMemory>
+    ensures { IfOk result (λ id. TermPut draft.old draft.new id.place never) }
 {
     let bit = Shape {
         bits: 1,
         signed: false,
     };
-    push_constant(signals, exprs, 0, bit)
+    push_constant(draft, 0, bit)
 }
 
 /// Adds the condition that an index is the number of an item, which it never is where the number has more bits.
+#[tactic(auto, using(crate::proofs::Conditions::own_shape))]
 pub fn push_item_test(
-    signals: &[Signal],
-    exprs: &mut Exprs,
-    index: ExprId,
-    shape: Shape,
+    draft: &mut PlainDraft,
+    index: Operand,
     item: usize,
 ) -> Result<ExprId, NoMemory>
-    requires keep { ExprsKeep (shapes_in signals.now) (length signals.now) exprs.old }
-    requires index { index.place < length exprs.old }
-    requires shape { shape_of (shapes_in signals.now) (term_at exprs.old index.place) ≡ shape }
-    ensures ok { IfOk result (λ id. TermPut exprs.old exprs.new id.place (is_item (shapes_in signals.now) (term_at exprs.old index.place) item)) }
-    ensures keep { ExprsKeep (shapes_in signals.now) (length signals.now) exprs.new }
+    requires { HasShape draft.old index }
+    ensures { IfOk result (λ id. TermPut draft.old draft.new id.place (is_item (shapes draft.old) (term draft.old index.id.place) item)) }
 {
-    if is_below(item, shape.bits) {
-        push_test(signals, exprs, Op::Eq, index, item as i128, shape)
+    if is_below(item, index.shape.bits) {
+        push_test(draft, Op::Eq, index, item as i128)
     } else {
-        push_never(signals, exprs)
+        push_never(draft)
     }
 }
 
 /// Adds the condition that an index is the number of an item or more, which it never is where the number has more bits.
+#[tactic(auto, using(crate::proofs::Conditions::own_shape))]
 pub fn push_last_test(
-    signals: &[Signal],
-    exprs: &mut Exprs,
-    index: ExprId,
-    shape: Shape,
+    draft: &mut PlainDraft,
+    index: Operand,
     item: usize,
 ) -> Result<ExprId, NoMemory>
-    requires keep { ExprsKeep (shapes_in signals.now) (length signals.now) exprs.old }
-    requires index { index.place < length exprs.old }
-    requires shape { shape_of (shapes_in signals.now) (term_at exprs.old index.place) ≡ shape }
-    ensures ok { IfOk result (λ id. TermPut exprs.old exprs.new id.place (is_last (shapes_in signals.now) (term_at exprs.old index.place) item)) }
-    ensures keep { ExprsKeep (shapes_in signals.now) (length signals.now) exprs.new }
+    requires { HasShape draft.old index }
+    ensures { IfOk result (λ id. TermPut draft.old draft.new id.place (is_last (shapes draft.old) (term draft.old index.id.place) item)) }
 {
-    if is_below(item, shape.bits) {
-        push_test(signals, exprs, Op::Ge, index, item as i128, shape)
+    if is_below(item, index.shape.bits) {
+        push_test(draft, Op::Ge, index, item as i128)
     } else {
-        push_never(signals, exprs)
+        push_never(draft)
     }
 }
 
 /// Adds a number without its lowest bits, so many of them.
-pub fn push_without_low(
-    signals: &[Signal],
-    exprs: &mut Exprs,
-    of: ExprId,
-    shape: Shape,
-    low: u8,
-) -> Result<ExprId, NoMemory>
-    requires keep { ExprsKeep (shapes_in signals.now) (length signals.now) exprs.old }
-    requires of { of.place < length exprs.old }
-    requires shape { shape_of (shapes_in signals.now) (term_at exprs.old of.place) ≡ shape }
-    ensures ok { IfOk result (λ id. TermPut exprs.old exprs.new id.place (without_low (shapes_in signals.now) low (term_at exprs.old of.place))) }
-    ensures keep { ExprsKeep (shapes_in signals.now) (length signals.now) exprs.new }
+pub fn push_without_low(draft: &mut PlainDraft, of: Operand, low: u8) -> Result<ExprId, NoMemory>
+    requires { HasShape draft.old of }
+    ensures { IfOk result (λ id. TermPut draft.old draft.new id.place (without_low (shapes draft.old) low (term draft.old of.id.place))) }
 {
     let seven = Shape {
         bits: 7,
         signed: false,
     };
-    let amount = push_constant(signals, exprs, low.min(shape.bits) as i128, seven)?;
-    push_binary(signals, exprs, Op::Shr, of, amount)
+    draft.keeps();
+    let amount = push_constant(draft, low.min(of.shape.bits) as i128, seven)?;
+    let id = push_binary(draft, Op::Shr, of.id, amount)?;
+    Ok(id)
 }
 
 /// Adds the condition that an expression is a key.
-pub fn push_key_test(
-    signals: &[Signal],
-    exprs: &mut Exprs,
-    on: ExprId,
-    shape: Shape,
-    key: i128,
-) -> Result<ExprId, NoMemory>
-    requires keep { ExprsKeep (shapes_in signals.now) (length signals.now) exprs.old }
-    requires on { on.place < length exprs.old }
-    requires shape { shape_of (shapes_in signals.now) (term_at exprs.old on.place) ≡ shape }
-    ensures ok { IfOk result (λ id. TermPut exprs.old exprs.new id.place (Binary Op.Eq (term_at exprs.old on.place) (key_of (shapes_in signals.now) (term_at exprs.old on.place) key))) }
-    ensures keep { ExprsKeep (shapes_in signals.now) (length signals.now) exprs.new }
+#[tactic(auto, using(crate::proofs::Conditions::own_shape))]
+pub fn push_key_test(draft: &mut PlainDraft, on: Operand, key: i128) -> Result<ExprId, NoMemory>
+    requires { HasShape draft.old on }
+    ensures { IfOk result (λ id. TermPut draft.old draft.new id.place (Binary Op.Eq (term draft.old on.id.place) (key_of (shapes draft.old) (term draft.old on.id.place) key))) }
 {
-    push_test(signals, exprs, Op::Eq, on, key, shape)
+    push_test(draft, Op::Eq, on, key)
 }
 
 /// Adds the condition that an expression is not a key.
-pub fn push_key_fails(
-    signals: &[Signal],
-    exprs: &mut Exprs,
-    on: ExprId,
-    shape: Shape,
-    key: i128,
-) -> Result<ExprId, NoMemory>
-    requires keep { ExprsKeep (shapes_in signals.now) (length signals.now) exprs.old }
-    requires on { on.place < length exprs.old }
-    requires shape { shape_of (shapes_in signals.now) (term_at exprs.old on.place) ≡ shape }
-    ensures ok { IfOk result (λ id. TermPut exprs.old exprs.new id.place (Binary Op.Ne (term_at exprs.old on.place) (key_of (shapes_in signals.now) (term_at exprs.old on.place) key))) }
-    ensures keep { ExprsKeep (shapes_in signals.now) (length signals.now) exprs.new }
+#[tactic(auto, using(crate::proofs::Conditions::own_shape))]
+pub fn push_key_fails(draft: &mut PlainDraft, on: Operand, key: i128) -> Result<ExprId, NoMemory>
+    requires { HasShape draft.old on }
+    ensures { IfOk result (λ id. TermPut draft.old draft.new id.place (Binary Op.Ne (term draft.old on.id.place) (key_of (shapes draft.old) (term draft.old on.id.place) key))) }
 {
-    push_test(signals, exprs, Op::Ne, on, key, shape)
+    push_test(draft, Op::Ne, on, key)
 }

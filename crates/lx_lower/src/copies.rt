@@ -1,8 +1,8 @@
-//! Copies of a design's signals, domains and ports.
+//! Copies of a design's signals, memories, domains and ports.
 
 ghost use Rattle.std.specs.Prelude.{◌≡◌, IfOk};
 
-use lx_fhdl::{Domain, SigId, Signal};
+use lx_fhdl::{Domain, Memory, Port, SigId, Signal};
 use lx_text::{List, NoMemory, Word};
 use std::alloc::Global;
 
@@ -38,6 +38,52 @@ pub fn copied_signals(alloc: Global, signals: &[Signal]) -> Result<List<Signal>,
     let mut list = List::new(alloc);
     for signal in signals {
         list.push(copied_signal(alloc, signal)?)?;
+    }
+    Ok(list)
+}
+
+/// Copies of numbers.
+fn copied_numbers(alloc: Global, numbers: &[u64]) -> Result<List<u64>, NoMemory>
+    ensures { IfOk result (λ list. list ≡ numbers.now) }
+{
+    let mut list = List::new(alloc);
+    for number in numbers {
+        list.push(*number)?;
+    }
+    Ok(list)
+}
+
+/// A copy of a memory.
+fn copied_memory(alloc: Global, memory: &Memory) -> Result<Memory, NoMemory>
+    ensures { IfOk result (λ copy. copy ≡ memory.now) }
+{
+    Ok(Memory {
+        path: copied_words(alloc, memory.path.as_slice())?,
+        width: memory.width,
+        depth: memory.depth,
+        init: copied_numbers(alloc, memory.init.as_slice())?,
+        line: memory.line,
+    })
+}
+
+/// Copies of memories.
+pub fn copied_memories(alloc: Global, memories: &[Memory]) -> Result<List<Memory>, NoMemory>
+    ensures { IfOk result (λ list. list ≡ memories.now) }
+{
+    let mut list = List::new(alloc);
+    for memory in memories {
+        list.push(copied_memory(alloc, memory)?)?;
+    }
+    Ok(list)
+}
+
+/// Copies of ports of memories.
+pub fn copied_accesses(alloc: Global, ports: &[Port]) -> Result<List<Port>, NoMemory>
+    ensures { IfOk result (λ list. list ≡ ports.now) }
+{
+    let mut list = List::new(alloc);
+    for port in ports {
+        list.push(*port)?;
     }
     Ok(list)
 }

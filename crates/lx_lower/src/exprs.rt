@@ -1,23 +1,28 @@
 //! The expressions of a design, lowered: each choice by an index becomes a chain of choices by a condition, and
 //! no expression is shifted right by more than its bits.
 
-ghost use Rattle.std.specs.Prelude.{◌≡◌, ◌<◌, pos, false, true, length, map, IfOk, IsTrue, MatchOption, None};
-ghost use Rattle.lx_circuit.specs.Operands.{is_binary};
-ghost use Rattle.lx_circuit.specs.Shapes.{fault_of, joined, pick_fault, shape_of, shapes_of, too_wide};
+ghost use Rattle.std.specs.Prelude.{◌≡◌, ◌<◌, pos, length, map, IfOk, IsTrue, MatchOption};
 ghost use Rattle.lx_circuit.specs.Terms.{Binary, Constant, Mux, Pick};
 ghost use Rattle.lx_circuit.specs.Values.{count_of};
 ghost use Rattle.lx_fhdl.specs.Below.{all_below, expr_below};
+ghost use Rattle.lx_fhdl.specs.Designs.{shapes, term};
 ghost use Rattle.lx_fhdl.specs.Keeping.{Keeps};
 ghost use Rattle.lx_fhdl.specs.Nodes.{IsSmall};
-ghost use Rattle.lx_fhdl.specs.Trees.{node_term, term_at, terms_at};
+ghost use Rattle.lx_fhdl.specs.Trees.{node_term, terms_at};
+ghost use Rattle.lx_fhdl.specs.declared.exprs.Expr.TheVariants as expr;
 ghost use Rattle.lx_lowering.specs.Terms.{cut_amount, is_item, lower_term, pick_from};
-ghost use Rattle.lx_lower.specs.Drafts.{ExprIsSound, ExprsAreSound, ExprsKeep, TermPut, shapes_in};
-ghost use Rattle.lx_lower.specs.Exprs.{AreMoved, AreShapes, ExprsAreLowered, moved_node, moved_to};
+ghost use Rattle.lx_lower.specs.Exprs.{AreLowered};
+ghost use Rattle.lx_lower.specs.Operands.{HasShape};
+ghost use Rattle.lx_lower.specs.Plain.{TermPut};
+ghost use Rattle.lx_lower.specs.Sources.{CanChoose, CanPick, IsAmount, IsLowered, IsNext, moved_node, moved_to};
 
 use crate::conds::{push_binary, push_constant, push_item_test};
-use crate::drafts::push_expr;
+use crate::copies::{copied_memories, copied_signals};
+use crate::operands::Operand;
+use crate::plain::PlainDraft;
 use crate::shapes::expr_shapes;
-use lx_fhdl::{Design, Expr, ExprId, Exprs, Signal};
+use crate::source::Source;
+use lx_fhdl::{Design, Expr, ExprId};
 use lx_num::{Shape, wrap};
 use lx_tables::Op;
 use lx_text::{List, NoMemory};
@@ -26,8 +31,8 @@ use std::alloc::Global;
 /// The lowered expressions of a design.
 #[derive(Drop)]
 pub struct LoweredExprs {
-    pub exprs: Exprs,
-    /// The place of each expression of the design among them.
+    pub draft: PlainDraft,
+    /// The place of each expression of the design in the draft.
     pub places: List<ExprId>,
     /// The shape of each expression of the design.
     pub shapes: List<Shape>,
@@ -97,6 +102,11 @@ fn moved_node(alloc: Global, places: &[ExprId], node: &Expr) -> Result<Expr, NoM
             low: *low,
             high: *high,
         },
+        Expr::Fetch { memory, width, at } => Expr::Fetch {
+            memory: *memory,
+            width: *width,
+            at: moved(places, *at),
+        },
     })
 }
 
@@ -108,13 +118,12 @@ fn count(number: i128) -> u128
 }
 
 /// The shape of an amount that is cut: a constant of so many bits or more.
-fn cut_shape(signals: &[Signal], exprs: &Exprs, amount: ExprId, bits: u8) -> Option<Shape>
-    requires keep { ExprsKeep (shapes_in signals.now) (length signals.now) exprs.now }
-    requires amount { amount.place < length exprs.now }
-    ensures { MatchOption result (cut_amount bits (term_at exprs.now amount.place) ≡ term_at exprs.now amount.place) (λ shape. IsSmall shape × (cut_amount bits (term_at exprs.now amount.place) ≡ Constant (pos bits) shape)) }
+fn cut_shape(draft: &PlainDraft, amount: ExprId, bits: u8) -> Option<Shape>
+    requires { amount.place < length draft.now.exprs }
+    ensures { MatchOption result (cut_amount bits (term draft.now amount.place) ≡ term draft.now amount.place) (λ shape. IsSmall shape × (cut_amount bits (term draft.now amount.place) ≡ Constant (pos bits) shape)) }
 {
-    let _signals = signals;
-    match exprs.get(amount) {
+    let arena = draft.draft();
+    match arena.expr(amount) {
         Expr::Const {
             value,
             bits: own,
@@ -135,192 +144,127 @@ fn cut_shape(signals: &[Signal], exprs: &Exprs, amount: ExprId, bits: u8) -> Opt
 }
 
 /// Adds an amount that is cut to the bits of its operand, where it is a constant of as many or more.
-fn push_cut(
-    signals: &[Signal],
-    exprs: &mut Exprs,
-    amount: ExprId,
-    bits: u8,
-) -> Result<ExprId, NoMemory>
-    requires keep { ExprsKeep (shapes_in signals.now) (length signals.now) exprs.old }
-    requires amount { amount.place < length exprs.old }
-    ensures ok { IfOk result (λ id. TermPut exprs.old exprs.new id.place (cut_amount bits (term_at exprs.old amount.place))) }
-    ensures keep { ExprsKeep (shapes_in signals.now) (length signals.now) exprs.new }
+fn push_cut(draft: &mut PlainDraft, amount: ExprId, bits: u8) -> Result<ExprId, NoMemory>
+    requires { amount.place < length draft.old.exprs }
+    ensures { IfOk result (λ id. TermPut draft.old draft.new id.place (cut_amount bits (term draft.old amount.place))) }
 {
-    match cut_shape(signals, exprs, amount, bits) {
-        Some(shape) => push_constant(signals, exprs, bits as i128, shape),
+    match cut_shape(draft, amount, bits) {
+        Some(shape) => push_constant(draft, bits as i128, shape),
         None => Ok(amount),
     }
 }
 
 /// Adds an expression that is shifted right, by at most its bits where the amount is a constant.
-fn push_shift(
-    signals: &[Signal],
-    exprs: &mut Exprs,
-    of: ExprId,
-    shape: Shape,
-    amount: ExprId,
-) -> Result<ExprId, NoMemory>
-    requires keep { ExprsKeep (shapes_in signals.now) (length signals.now) exprs.old }
-    requires of { of.place < length exprs.old }
-    requires shape { shape_of (shapes_in signals.now) (term_at exprs.old of.place) ≡ shape }
-    requires amount { amount.place < length exprs.old }
-    requires unsigned { (shape_of (shapes_in signals.now) (term_at exprs.old amount.place)).signed ≡ false }
-    ensures ok { IfOk result (λ id. TermPut exprs.old exprs.new id.place (Binary Op.Shr (term_at exprs.old of.place) (cut_amount shape.bits (term_at exprs.old amount.place)))) }
-    ensures keep { ExprsKeep (shapes_in signals.now) (length signals.now) exprs.new }
+fn push_shift(draft: &mut PlainDraft, of: Operand, amount: ExprId) -> Result<ExprId, NoMemory>
+    requires of { HasShape draft.old of }
+    requires amount { IsAmount draft.old amount.place }
+    ensures { IfOk result (λ id. TermPut draft.old draft.new id.place (Binary Op.Shr (term draft.old of.id.place) (cut_amount of.shape.bits (term draft.old amount.place)))) }
 {
-    let cut = push_cut(signals, exprs, amount, shape.bits)?;
-    push_binary(signals, exprs, Op::Shr, of, cut)
+    let cut = push_cut(draft, amount, of.shape.bits)?;
+    let id = push_binary(draft, Op::Shr, of.id, cut)?;
+    Ok(id)
 }
 
 /// Adds the choice of an item where the index is its number, and of another expression where it isn't.
 fn push_choice(
-    signals: &[Signal],
-    exprs: &mut Exprs,
-    index: ExprId,
-    shape: Shape,
+    draft: &mut PlainDraft,
+    index: Operand,
     item: usize,
     yes: ExprId,
     no: ExprId,
 ) -> Result<ExprId, NoMemory>
-    requires keep { ExprsKeep (shapes_in signals.now) (length signals.now) exprs.old }
-    requires index { index.place < length exprs.old }
-    requires shape { shape_of (shapes_in signals.now) (term_at exprs.old index.place) ≡ shape }
-    requires yes { yes.place < length exprs.old }
-    requires no { no.place < length exprs.old }
-    requires sound { too_wide (joined (shape_of (shapes_in signals.now) (term_at exprs.old yes.place)) (shape_of (shapes_in signals.now) (term_at exprs.old no.place))).bits ≡ None }
-    ensures ok { IfOk result (λ id. TermPut exprs.old exprs.new id.place (Mux (is_item (shapes_in signals.now) (term_at exprs.old index.place) item) (term_at exprs.old yes.place) (term_at exprs.old no.place))) }
-    ensures keep { ExprsKeep (shapes_in signals.now) (length signals.now) exprs.new }
+    requires index { HasShape draft.old index }
+    requires both { CanChoose draft.old yes no }
+    ensures { IfOk result (λ id. TermPut draft.old draft.new id.place (Mux (is_item (shapes draft.old) (term draft.old index.id.place) item) (term draft.old yes.place) (term draft.old no.place))) }
 {
-    let cond = push_item_test(signals, exprs, index, shape, item)?;
-    push_expr(signals, exprs, Expr::Mux { cond, yes, no })
+    let cond = push_item_test(draft, index, item)?;
+    draft.keeps();
+    let id = draft.push_expr(Expr::Mux { cond, yes, no })?;
+    Ok(id)
 }
 
 /// Adds the choice of the item at the index, the last item where the index is at or past the number of items.
 fn push_choices(
-    signals: &[Signal],
-    exprs: &mut Exprs,
+    draft: &mut PlainDraft,
     items: &[ExprId],
-    index: ExprId,
-    shape: Shape,
+    index: Operand,
 ) -> Result<ExprId, NoMemory>
-    requires keep { ExprsKeep (shapes_in signals.now) (length signals.now) exprs.old }
-    requires some { 0 < length items.now }
-    requires items { IsTrue (all_below (length exprs.old) items.now) }
-    requires index { index.place < length exprs.old }
-    requires shape { shape_of (shapes_in signals.now) (term_at exprs.old index.place) ≡ shape }
-    requires sound { pick_fault (shapes_of (shapes_in signals.now) (terms_at (term_at exprs.old) items.now)) shape ≡ None }
-    ensures ok { IfOk result (λ id. TermPut exprs.old exprs.new id.place (pick_from (shapes_in signals.now) 0 (terms_at (term_at exprs.old) items.now) (term_at exprs.old index.place))) }
-    ensures keep { ExprsKeep (shapes_in signals.now) (length signals.now) exprs.new }
+    requires items { CanPick draft.old items.now index.shape }
+    requires index { HasShape draft.old index }
+    ensures { IfOk result (λ id. TermPut draft.old draft.new id.place (pick_from (shapes draft.old) 0 (terms_at (term draft.old) items.now) (term draft.old index.id.place))) }
 {
+    draft.keeps();
     let mut item = items.len() - 1;
     let mut chosen = items[item];
     while item > 0 {
         item -= 1;
-        chosen = push_choice(signals, exprs, index, shape, item, items[item], chosen)?;
+        chosen = push_choice(draft, index, item, items[item], chosen)?;
     }
     Ok(chosen)
 }
 
 /// Adds an operator of two expressions of the design, lowered.
 fn lower_binary(
-    design: &Design,
-    shapes: &[Shape],
-    places: &[ExprId],
-    exprs: &mut Exprs,
+    source: &Source,
+    draft: &mut PlainDraft,
     op: Op,
     left: ExprId,
     right: ExprId,
 ) -> Result<ExprId, NoMemory>
-    requires design { ExprsAreSound (shapes_in design.now.signals) (length design.now.signals) design.now.exprs }
-    requires shapes { AreShapes (shapes_in design.now.signals) design.now shapes.now }
-    requires keep { ExprsKeep (shapes_in design.now.signals) (length design.now.signals) exprs.old }
-    requires moved { AreMoved (shapes_in design.now.signals) design.now.exprs exprs.old places.now }
-    requires op { is_binary op ≡ true }
-    requires left { left.place < length places.now }
-    requires right { right.place < length places.now }
-    requires sound { fault_of (shapes_in design.now.signals) (Binary op (term_at design.now.exprs left.place) (term_at design.now.exprs right.place)) ≡ None }
-    ensures ok { IfOk result (λ id. TermPut exprs.old exprs.new id.place (lower_term (shapes_in design.now.signals) (Binary op (term_at design.now.exprs left.place) (term_at design.now.exprs right.place)))) }
-    ensures keep { ExprsKeep (shapes_in design.now.signals) (length design.now.signals) exprs.new }
+    requires lowered { IsLowered source.now draft.old }
+    requires node { IsNext source.now (expr.Binary op left right) }
+    ensures { IfOk result (λ id. TermPut draft.old draft.new id.place (lower_term (shapes source.now.design) (Binary op (term source.now.design left.place) (term source.now.design right.place)))) }
 {
-    let signals = design.signals.as_slice();
-    let shape = shapes[left.place];
-    let left = moved(places, left);
-    let right = moved(places, right);
+    let of = source.lowered(draft, left);
+    let amount = source.lowered(draft, right).id;
+    let _design = source.design();
+    draft.keeps();
     match op {
-        Op::Shr => push_shift(signals, exprs, left, shape, right),
-        _ => push_binary(signals, exprs, op, left, right),
+        Op::Shr => push_shift(draft, of, amount),
+        _ => push_binary(draft, op, of.id, amount),
     }
 }
 
 /// Adds the choice of one of the items, which are expressions of the design, lowered.
 fn lower_pick(
     alloc: Global,
-    design: &Design,
-    shapes: &[Shape],
-    places: &[ExprId],
-    exprs: &mut Exprs,
+    source: &Source,
+    draft: &mut PlainDraft,
     items: &[ExprId],
     index: ExprId,
 ) -> Result<ExprId, NoMemory>
-    requires design { ExprsAreSound (shapes_in design.now.signals) (length design.now.signals) design.now.exprs }
-    requires shapes { AreShapes (shapes_in design.now.signals) design.now shapes.now }
-    requires keep { ExprsKeep (shapes_in design.now.signals) (length design.now.signals) exprs.old }
-    requires moved { AreMoved (shapes_in design.now.signals) design.now.exprs exprs.old places.now }
-    requires some { 0 < length items.now }
-    requires items { IsTrue (all_below (length places.now) items.now) }
-    requires index { index.place < length places.now }
-    requires sound { fault_of (shapes_in design.now.signals) (Pick (terms_at (term_at design.now.exprs) items.now) (term_at design.now.exprs index.place)) ≡ None }
-    ensures ok { IfOk result (λ id. TermPut exprs.old exprs.new id.place (lower_term (shapes_in design.now.signals) (Pick (terms_at (term_at design.now.exprs) items.now) (term_at design.now.exprs index.place)))) }
-    ensures keep { ExprsKeep (shapes_in design.now.signals) (length design.now.signals) exprs.new }
+    requires lowered { IsLowered source.now draft.old }
+    requires node { IsNext source.now (expr.Pick items.now index) }
+    ensures { IfOk result (λ id. TermPut draft.old draft.new id.place (lower_term (shapes source.now.design) (Pick (terms_at (term source.now.design) items.now) (term source.now.design index.place)))) }
 {
-    let signals = design.signals.as_slice();
-    let shape = shapes[index.place];
-    let items = moved_all(alloc, places, items)?;
-    push_choices(
-        signals,
-        exprs,
-        items.as_slice(),
-        moved(places, index),
-        shape,
-    )
+    let index = source.lowered(draft, index);
+    let _design = source.design();
+    let items = moved_all(alloc, source.places(), items)?;
+    push_choices(draft, items.as_slice(), index)
 }
 
 /// Adds a node of the design, lowered, and gives its new place. The nodes below it have their new places.
 fn lower_expr(
     alloc: Global,
-    design: &Design,
-    shapes: &[Shape],
-    places: &[ExprId],
-    exprs: &mut Exprs,
+    source: &Source,
+    draft: &mut PlainDraft,
     node: &Expr,
 ) -> Result<ExprId, NoMemory>
-    requires design { ExprsAreSound (shapes_in design.now.signals) (length design.now.signals) design.now.exprs }
-    requires shapes { AreShapes (shapes_in design.now.signals) design.now shapes.now }
-    requires keep { ExprsKeep (shapes_in design.now.signals) (length design.now.signals) exprs.old }
-    requires moved { AreMoved (shapes_in design.now.signals) design.now.exprs exprs.old places.now }
-    requires below { IsTrue (expr_below node.now (length places.now)) }
-    requires node { ExprIsSound (shapes_in design.now.signals) (length design.now.signals) design.now.exprs node.now }
-    ensures ok { IfOk result (λ id. TermPut exprs.old exprs.new id.place (lower_term (shapes_in design.now.signals) (node_term (term_at design.now.exprs) node.now))) }
-    ensures keep { ExprsKeep (shapes_in design.now.signals) (length design.now.signals) exprs.new }
+    requires lowered { IsLowered source.now draft.old }
+    requires node { IsNext source.now node.now }
+    ensures { IfOk result (λ id. TermPut draft.old draft.new id.place (lower_term (shapes source.now.design) (node_term (term source.now.design) node.now))) }
 {
     match node {
-        Expr::Binary { op, left, right } => {
-            lower_binary(design, shapes, places, exprs, *op, *left, *right)
-        }
+        Expr::Binary { op, left, right } => lower_binary(source, draft, *op, *left, *right),
         Expr::Pick { items, index } => {
-            lower_pick(
-                alloc,
-                design,
-                shapes,
-                places,
-                exprs,
-                items.as_slice(),
-                *index,
-            )
+            lower_pick(alloc, source, draft, items.as_slice(), *index)
         }
         _ => {
-            let copy = moved_node(alloc, places, node)?;
-            push_expr(design.signals.as_slice(), exprs, copy)
+            let copy = moved_node(alloc, source.places(), node)?;
+            let _design = source.design();
+            draft.keeps();
+            let id = draft.push_expr(copy)?;
+            Ok(id)
         }
     }
 }
@@ -328,24 +272,21 @@ fn lower_expr(
 /// The expressions of a design, lowered, in their order. A node that is as it was is added once, and nothing else.
 pub fn lower_exprs(alloc: Global, design: &Design) -> Result<LoweredExprs, NoMemory>
     requires { Keeps design.now }
-    ensures { IfOk result (λ lowered. ExprsAreLowered (shapes_in design.now.signals) design.now lowered) }
+    ensures { IfOk result (λ lowered. AreLowered design.now lowered) }
 {
     let shapes = expr_shapes(alloc, design)?;
-    let mut exprs = Exprs::new(alloc);
+    let signals = copied_signals(alloc, design.signals.as_slice())?;
+    let memories = copied_memories(alloc, design.memories.as_slice())?;
+    let mut draft = PlainDraft::start(alloc, signals, memories)?;
     let mut places = List::new(alloc);
+    let sizes = shapes.as_slice();
     for node in design.exprs.as_slice() {
-        let place = lower_expr(
-            alloc,
-            design,
-            shapes.as_slice(),
-            places.as_slice(),
-            &mut exprs,
-            node,
-        )?;
+        let source = Source::new(design, sizes, places.as_slice());
+        let place = lower_expr(alloc, &source, &mut draft, node)?;
         places.push(place)?;
     }
     Ok(LoweredExprs {
-        exprs,
+        draft,
         places,
         shapes,
     })

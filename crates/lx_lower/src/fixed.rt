@@ -1,15 +1,14 @@
-//! Expressions that name no signal, and their values.
+//! Expressions that name neither a signal nor a word of a memory, and their values.
 
-ghost use Rattle.std.specs.Prelude.{◌≡◌, ◌<◌, pos, length, replicate, IfOk, IsTrue};
+ghost use Rattle.std.specs.Prelude.{◌≡◌, ◌<◌, [], pos, length, replicate, IfOk, IsTrue};
 ghost use Rattle.lx_fhdl.specs.Below.{all_below, expr_below};
-ghost use Rattle.lx_lower.specs.Drafts.{ExprsAreSound, shapes_in};
-ghost use Rattle.lx_lower.specs.Exprs.{ShapesTo};
-ghost use Rattle.lx_lower.specs.Fixed.{AreFree, AreNarrow, AreValues, IsFixed, all_free, free_at, node_free};
+ghost use Rattle.lx_fhdl.specs.Drafts.{DraftKeeps};
+ghost use Rattle.lx_fhdl.specs.Nodes.{IsShaped};
+ghost use Rattle.lx_lower.specs.Fixed.{AreFree, AreValued, IsFixed, IsMask, all_free, free_at, mask_node, node_free};
 
-use crate::shapes::term_shapes;
-use crate::trees::expr_node;
+use crate::shapes::expr_shapes;
 use lx_arena::Id;
-use lx_fhdl::{Expr, ExprId, Exprs, Signal, Steps, eval_into};
+use lx_fhdl::{Design, Expr, ExprId, Exprs, Steps, eval_into};
 use lx_num::Shape;
 use lx_text::{List, NoMemory};
 use std::alloc::Global;
@@ -19,9 +18,9 @@ use std::sync::ledger::{Blank, Ledger};
 /// What is known of each expression.
 #[derive(Drop)]
 pub struct Fixed {
-    /// Whether it names no signal.
+    /// Whether it names neither a signal nor a word of a memory.
     pub free: List<bool>,
-    /// Its value where all signals are 0.
+    /// Its value where it is free.
     pub values: List<i128>,
 }
 
@@ -44,7 +43,7 @@ fn all_free(free: &[bool], ids: &[ExprId]) -> bool
     true
 }
 
-/// Whether a node names no signal, from its children.
+/// Whether a node names neither a signal nor a word of a memory, from its children.
 fn node_free(free: &[bool], node: &Expr) -> bool
     requires { IsTrue (expr_below node.now (length free.now)) }
     ensures { result ≡ node_free free.now node.now }
@@ -61,36 +60,122 @@ fn node_free(free: &[bool], node: &Expr) -> bool
         }
         Expr::Cat(parts) => all_free(free, parts.as_slice()),
         Expr::Pick { items, index } => all_free(free, items.as_slice()) && free_at(free, *index),
+        Expr::Fetch { .. } => false,
     }
 }
 
-/// For each expression, whether it names no signal.
-pub fn free_exprs(alloc: Global, exprs: &Exprs) -> Result<List<bool>, NoMemory>
+/// For each expression, whether it names neither a signal nor a word of a memory.
+fn free_exprs(alloc: Global, exprs: &Exprs) -> Result<List<bool>, NoMemory>
     ensures { IfOk result (λ free. AreFree exprs.now (length exprs.now) free) }
 {
+    exprs.lower();
     let mut free = List::new(alloc);
     for place in 0..exprs.len() {
         let id = Id {
             place,
             of: PhantomData,
         };
-        let own = node_free(free.as_slice(), expr_node(exprs, id));
+        let own = node_free(free.as_slice(), exprs.get(id));
         free.push(own)?;
     }
     Ok(free)
 }
 
-/// So many zeros.
-fn zeros(alloc: Global, count: usize) -> Result<Vec<i128>, NoMemory>
-    ensures { IfOk result (λ list. list.items ≡ replicate count (pos 0)) }
+/// Copies of places.
+fn copied_places(alloc: Global, ids: &[ExprId]) -> Result<List<ExprId>, NoMemory>
+    ensures { IfOk result (λ list. list ≡ ids.now) }
 {
-    Ok(vec![in alloc; 0; count]?)
+    let mut list = List::new(alloc);
+    for id in ids {
+        list.push(*id)?;
+    }
+    Ok(list)
 }
 
-/// The value of each expression where all signals are 0, under a counter of its own.
+/// A copy of an expression.
+fn copied_expr(alloc: Global, node: &Expr) -> Result<Expr, NoMemory>
+    ensures { IfOk result (λ copy. copy ≡ node.now) }
+{
+    Ok(match node {
+        Expr::Const {
+            value,
+            bits,
+            signed,
+        } => Expr::Const {
+            value: *value,
+            bits: *bits,
+            signed: *signed,
+        },
+        Expr::Sig(x) => Expr::Sig(*x),
+        Expr::Unary { op, of } => Expr::Unary { op: *op, of: *of },
+        Expr::Binary { op, left, right } => Expr::Binary {
+            op: *op,
+            left: *left,
+            right: *right,
+        },
+        Expr::Mux { cond, yes, no } => Expr::Mux {
+            cond: *cond,
+            yes: *yes,
+            no: *no,
+        },
+        Expr::Cat(parts) => Expr::Cat(copied_places(alloc, parts.as_slice())?),
+        Expr::Pick { items, index } => Expr::Pick {
+            items: copied_places(alloc, items.as_slice())?,
+            index: *index,
+        },
+        Expr::Replicate { of, count } => Expr::Replicate {
+            of: *of,
+            count: *count,
+        },
+        Expr::Slice { of, low, high } => Expr::Slice {
+            of: *of,
+            low: *low,
+            high: *high,
+        },
+        Expr::Fetch { memory, width, at } => Expr::Fetch {
+            memory: *memory,
+            width: *width,
+            at: *at,
+        },
+    })
+}
+
+/// An expression, or 0 of its shape in its place.
+fn masked_node(alloc: Global, node: &Expr, free: bool, shape: Shape) -> Result<Expr, NoMemory>
+    ensures { IfOk result (λ x. x ≡ mask_node free shape node.now) }
+{
+    if free {
+        copied_expr(alloc, node)
+    } else {
+        Ok(Expr::Const {
+            value: 0,
+            bits: shape.bits as u32,
+            signed: shape.signed,
+        })
+    }
+}
+
+/// The expressions at their places, with 0 in place of each that isn't free.
+fn masked(alloc: Global, exprs: &Exprs, free: &[bool], shapes: &[Shape]) -> Result<Exprs, NoMemory>
+    requires free { length free.now ≡ length exprs.now }
+    requires shapes { length shapes.now ≡ length exprs.now }
+    ensures ok { IfOk result (λ mask. IsMask exprs.now free.now shapes.now (length exprs.now) mask) }
+{
+    let mut mask = Exprs::new(alloc);
+    for place in 0..exprs.len() {
+        let id = Id {
+            place,
+            of: PhantomData,
+        };
+        let node = masked_node(alloc, exprs.get(id), free[place], shapes[place])?;
+        mask.push(node)?;
+    }
+    Ok(mask)
+}
+
+/// The value of each expression, under a counter of its own.
 fn count_values<L: Ledger>(
     alloc: Global,
-    signals: &[Signal],
     exprs: &Exprs,
     shapes: &[Shape],
     blank: Blank,
@@ -98,47 +183,32 @@ fn count_values<L: Ledger>(
     requires name { blank.name ≡ L.name }
     requires parts { blank.parts ≡ L.parts }
     requires some { 0 < blank.parts }
-    requires sound { ExprsAreSound (shapes_in signals.now) (length signals.now) exprs.now }
-    requires narrow { AreNarrow (shapes_in signals.now) (length signals.now) }
-    requires shapes { ShapesTo (shapes_in signals.now) exprs.now (length exprs.now) shapes.now }
-    ensures { IfOk result (λ known. AreValues (shapes_in signals.now) exprs.now known) }
+    requires shaped { IsShaped exprs.now shapes.now [] }
+    ensures { IfOk result (λ known. AreValued exprs.now shapes.now known) }
 {
-    let none = zeros(alloc, signals.len())?;
-    let mut known = zeros(alloc, exprs.len())?;
+    let mut known = vec![in alloc; 0; exprs.len()]?;
     let mut steps = Steps::<L>::new(blank);
-    eval_into(
-        exprs,
-        shapes,
-        none.as_slice(),
-        known.as_mut_slice(),
-        &mut steps,
-    );
+    eval_into(exprs, shapes, &[], known.as_mut_slice(), &mut steps);
     Ok(List::from_vec(known))
 }
 
-/// The value of each expression where all signals are 0.
-fn values(
-    alloc: Global,
-    signals: &[Signal],
-    exprs: &Exprs,
-    shapes: &[Shape],
-) -> Result<List<i128>, NoMemory>
-    requires sound { ExprsAreSound (shapes_in signals.now) (length signals.now) exprs.now }
-    requires narrow { AreNarrow (shapes_in signals.now) (length signals.now) }
-    requires shapes { ShapesTo (shapes_in signals.now) exprs.now (length exprs.now) shapes.now }
-    ensures { IfOk result (λ known. AreValues (shapes_in signals.now) exprs.now known) }
+/// The value of each expression. None of them names anything.
+fn values(alloc: Global, exprs: &Exprs, shapes: &[Shape]) -> Result<List<i128>, NoMemory>
+    requires { IsShaped exprs.now shapes.now [] }
+    ensures { IfOk result (λ known. AreValued exprs.now shapes.now known) }
 {
-    count_values::<Brand>(alloc, signals, exprs, shapes, Blank::new(1))
+    count_values::<Brand>(alloc, exprs, shapes, Blank::new(1))
 }
 
-/// What is known of each expression.
-pub fn fixed_exprs(alloc: Global, signals: &[Signal], exprs: &Exprs) -> Result<Fixed, NoMemory>
-    requires sound { ExprsAreSound (shapes_in signals.now) (length signals.now) exprs.now }
-    requires narrow { AreNarrow (shapes_in signals.now) (length signals.now) }
-    ensures { IfOk result (λ f. IsFixed (shapes_in signals.now) exprs.now f) }
+/// What is known of each expression of a draft.
+pub fn fixed_exprs(alloc: Global, design: &Design) -> Result<Fixed, NoMemory>
+    requires { DraftKeeps design.now }
+    ensures { IfOk result (λ fixed. IsFixed design.now fixed) }
 {
-    let shapes = term_shapes(alloc, signals, exprs)?;
-    let values = values(alloc, signals, exprs, shapes.as_slice())?;
-    let free = free_exprs(alloc, exprs)?;
+    let shapes = expr_shapes(alloc, design)?;
+    let free = free_exprs(alloc, &design.exprs)?;
+    let mask = masked(alloc, &design.exprs, free.as_slice(), shapes.as_slice())?;
+    mask.lower();
+    let values = values(alloc, &mask, shapes.as_slice())?;
     Ok(Fixed { free, values })
 }

@@ -1,21 +1,25 @@
 //! The conditions of arms: that an expression is a key, and that it is no key.
 
-ghost use Rattle.std.specs.Prelude.{◌≡◌, ◌&&◌, ◌≤◌, [], not, length, IfOk, Some, None};
+ghost use Rattle.std.specs.Prelude.{◌≡◌, ◌&&◌, [], not, length, if◌then◌else◌, IfOk, Some, None};
 ghost use Rattle.std.specs.Ordering.{int_eq};
 ghost use Rattle.lx_num.specs.Ints.{wrapped};
-ghost use Rattle.lx_fhdl.specs.Trees.{term_at};
 ghost use Rattle.lx_circuit.specs.Terms.{Binary};
-ghost use Rattle.lx_lowering.specs.Flat.{and_none, is_among_keys, is_key, key_of, no_key};
-ghost use Rattle.lx_lower.specs.Drafts.{ExprsKeep, TermPut, shapes_in};
-ghost use Rattle.lx_lower.specs.Keys.{AreBits, NonePut, none_after, none_of, seen_keys};
-ghost use Rattle.lx_lower.specs.Sources.{HasShape};
+ghost use Rattle.lx_fhdl.specs.Designs.{shapes, term};
+ghost use Rattle.lx_fhdl.specs.Nodes.{IsSmall};
+ghost use Rattle.lx_lowering.specs.Flat.{and_none, is_among_keys, key_of};
+ghost use Rattle.lx_lowering.specs.Terms.{never};
+ghost use Rattle.lx_lower.specs.Keys.{AreBits, AreFresh, NonePut, none_after, none_of, seen_keys};
+ghost use Rattle.lx_lower.specs.Operands.{HasShape};
+ghost use Rattle.lx_lower.specs.Plain.{TermPut};
 
 use crate::conds::{push_and, push_key_fails, push_key_test, push_never};
-use crate::source::Operand;
-use lx_fhdl::{Arm, ExprId, Exprs, Signal};
+use crate::operands::Operand;
+use crate::plain::PlainDraft;
+use lx_fhdl::{Arm, ExprId};
 use lx_num::{Shape, wrap};
 use lx_tables::Op;
-use lx_text::NoMemory;
+use lx_text::{List, NoMemory};
+use std::alloc::Global;
 
 /// Whether a number is the key of an arm.
 fn is_seen(arms: &[Arm], key: i128) -> bool
@@ -30,72 +34,74 @@ fn is_seen(arms: &[Arm], key: i128) -> bool
 
 /// Whether a key is one of the values of a shape, and not the key of an arm before.
 fn is_fresh(before: &[Arm], key: i128, shape: Shape) -> bool
-    requires some { 1 ≤ shape.bits }
-    requires most { shape.bits ≤ 127 }
+    requires { IsSmall shape }
     ensures { result ≡ (int_eq (wrapped shape key) key && not (is_among_keys key (seen_keys before.now))) }
 {
     wrap(key, shape) == key && !is_seen(before, key)
 }
 
-/// Adds the condition that an expression is the key after those of some arms, which it never is where the key isn't one
-/// of its values or stands before.
+/// For each arm, whether its key is one of the values of a shape and stands in no arm before.
+pub fn fresh_keys(alloc: Global, arms: &[Arm], shape: Shape) -> Result<List<bool>, NoMemory>
+    requires { IsSmall shape }
+    ensures { IfOk result (λ fresh. AreFresh shape arms.now (length arms.now) fresh) }
+{
+    let mut fresh = List::new(alloc);
+    for (number, arm) in arms.iter().enumerate() {
+        let own = is_fresh(&arms[..number], arm.key, shape);
+        fresh.push(own)?;
+    }
+    Ok(fresh)
+}
+
+/// Adds the condition that an expression is a key, which it never is where the key isn't fresh.
 pub fn push_key(
-    signals: &[Signal],
-    exprs: &mut Exprs,
+    draft: &mut PlainDraft,
     on: Operand,
-    before: &[Arm],
+    fresh: bool,
     key: i128,
 ) -> Result<ExprId, NoMemory>
-    requires keep { ExprsKeep (shapes_in signals.now) (length signals.now) exprs.old }
-    requires on { HasShape signals.now exprs.old on }
-    ensures ok { IfOk result (λ id. TermPut exprs.old exprs.new id.place (is_key (shapes_in signals.now) (term_at exprs.old on.id.place) (seen_keys before.now) key)) }
-    ensures keep { ExprsKeep (shapes_in signals.now) (length signals.now) exprs.new }
+    requires { HasShape draft.old on }
+    ensures { IfOk result (λ id. TermPut draft.old draft.new id.place (if fresh then Binary Op.Eq (term draft.old on.id.place) (key_of (shapes draft.old) (term draft.old on.id.place) key) else never)) }
 {
-    if is_fresh(before, key, on.shape) {
-        push_key_test(signals, exprs, on.id, on.shape, key)
+    if fresh {
+        push_key_test(draft, on, key)
     } else {
-        push_never(signals, exprs)
+        push_never(draft)
     }
 }
 
 /// Adds the condition that an expression is none of some keys, and not this one.
 fn push_and_none(
-    signals: &[Signal],
-    exprs: &mut Exprs,
+    draft: &mut PlainDraft,
     none: Option<ExprId>,
     on: Operand,
     key: i128,
 ) -> Result<ExprId, NoMemory>
-    requires keep { ExprsKeep (shapes_in signals.now) (length signals.now) exprs.old }
-    requires on { HasShape signals.now exprs.old on }
-    requires none { AreBits signals.now exprs.old none }
-    ensures ok { IfOk result (λ id. NonePut signals.now exprs.old exprs.new (Some id) (and_none (none_of exprs.old none) (Binary Op.Ne (term_at exprs.old on.id.place) (key_of (shapes_in signals.now) (term_at exprs.old on.id.place) key)))) }
-    ensures keep { ExprsKeep (shapes_in signals.now) (length signals.now) exprs.new }
+    requires on { HasShape draft.old on }
+    requires none { AreBits draft.old none }
+    ensures { IfOk result (λ id. NonePut draft.old draft.new (Some id) (and_none (none_of draft.old none) (Binary Op.Ne (term draft.old on.id.place) (key_of (shapes draft.old) (term draft.old on.id.place) key)))) }
 {
-    let other = push_key_fails(signals, exprs, on.id, on.shape, key)?;
+    let other = push_key_fails(draft, on, key)?;
     match none {
-        Some(none) => push_and(signals, exprs, none, other),
+        Some(none) => push_and(draft, none, other),
         None => Ok(other),
     }
 }
 
-/// Adds the condition that an expression is none of some keys, and not the one after those of some arms, where it can be.
+/// Adds the condition that an expression is none of some keys, and not this one where it is fresh.
 fn push_no_key(
-    signals: &[Signal],
-    exprs: &mut Exprs,
+    draft: &mut PlainDraft,
     none: Option<ExprId>,
     on: Operand,
-    before: &[Arm],
+    fresh: bool,
     key: i128,
 ) -> Result<Option<ExprId>, NoMemory>
-    requires keep { ExprsKeep (shapes_in signals.now) (length signals.now) exprs.old }
-    requires on { HasShape signals.now exprs.old on }
-    requires none { AreBits signals.now exprs.old none }
-    ensures ok { IfOk result (λ more. NonePut signals.now exprs.old exprs.new more (no_key (shapes_in signals.now) (term_at exprs.old on.id.place) (seen_keys before.now) (none_of exprs.old none) key)) }
-    ensures keep { ExprsKeep (shapes_in signals.now) (length signals.now) exprs.new }
+    requires on { HasShape draft.old on }
+    requires none { AreBits draft.old none }
+    ensures { IfOk result (λ more. NonePut draft.old draft.new more (if fresh then and_none (none_of draft.old none) (Binary Op.Ne (term draft.old on.id.place) (key_of (shapes draft.old) (term draft.old on.id.place) key)) else none_of draft.old none)) }
 {
-    if is_fresh(before, key, on.shape) {
-        Ok(Some(push_and_none(signals, exprs, none, on, key)?))
+    if fresh {
+        Ok(Some(push_and_none(draft, none, on, key)?))
     } else {
         Ok(none)
     }
@@ -103,19 +109,18 @@ fn push_no_key(
 
 /// Adds the condition that an expression is no key of some arms, where it can be one.
 pub fn push_no_keys(
-    signals: &[Signal],
-    exprs: &mut Exprs,
+    draft: &mut PlainDraft,
     on: Operand,
     arms: &[Arm],
+    fresh: &[bool],
 ) -> Result<Option<ExprId>, NoMemory>
-    requires keep { ExprsKeep (shapes_in signals.now) (length signals.now) exprs.old }
-    requires on { HasShape signals.now exprs.old on }
-    ensures ok { IfOk result (λ none. NonePut signals.now exprs.old exprs.new none (none_after (shapes_in signals.now) (term_at exprs.old on.id.place) [] None arms.now)) }
-    ensures keep { ExprsKeep (shapes_in signals.now) (length signals.now) exprs.new }
+    requires on { HasShape draft.old on }
+    requires fresh { AreFresh on.shape arms.now (length arms.now) fresh.now }
+    ensures { IfOk result (λ none. NonePut draft.old draft.new none (none_after (shapes draft.old) (term draft.old on.id.place) [] None arms.now)) }
 {
     let mut none = None;
     for (number, arm) in arms.iter().enumerate() {
-        none = push_no_key(signals, exprs, none, on, &arms[..number], arm.key)?;
+        none = push_no_key(draft, none, on, fresh[number], arm.key)?;
     }
     Ok(none)
 }

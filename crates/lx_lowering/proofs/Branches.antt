@@ -9,9 +9,10 @@ use Rattle.lx_num.specs.Ints.{wrapped, Fits}
 use Rattle.lx_num.specs.Bits.{int_and}
 use Rattle.lx_num.proofs.Ranges.{wrap_bits_same}
 use Rattle.lx_tables.specs.declared.operators.Op.TheVariants as op
+use Rattle.lx_circuit.specs.Places.{Values}
 use Rattle.lx_circuit.specs.Terms.{Term, Binary}
 use Rattle.lx_circuit.specs.Shapes.{Shapes, shape_of}
-use Rattle.lx_circuit.specs.Values.{Values, value_of, is_zero, flag}
+use Rattle.lx_circuit.specs.Values.{value_of, is_zero, flag}
 use Rattle.lx_circuit.specs.Statements.{Branches, NoBranch, Branch, Block, Done, Then, Piece, taken_block}
 use Rattle.lx_fhdl.specs.Nodes.{IsSmall}
 use Rattle.lx_fhdl.proofs.Fitting.{fits_zero}

@@ -5,6 +5,7 @@ use Rattle.std.proofs.lemmas.Bool.{or_cases, or_left, or_right, false≢true}
 use Rattle.std.proofs.lemmas.Bool.Decides.{nat_tests}
 use Rattle.std.proofs.Math.Bool.{or_assoc, or-false}
 use Rattle.lx_tables.specs.declared.operators.Op.TheVariants as op
+use Rattle.lx_circuit.specs.Places.{Place}
 use Rattle.lx_circuit.specs.Terms.{Term, Constant, Binary}
 use Rattle.lx_circuit.specs.Shapes.{Shapes, shape_of}
 use Rattle.lx_circuit.specs.Statements.{Target, Targets, Whole, Part, CatTarget, PickTarget, NoTarget, MoreTargets, Stmt, Assign, If, Case, Branches, NoBranch, Branch, Arms, NoArm, Arm, Block, Done, Then, is_target, some_target, drives, drives_branch, drives_arm, drives_block, target_bits}
@@ -113,14 +114,14 @@ mutual
 -- ---- what is read
 
 -- the conditions name what the expressions in them name
-item_names : (s : Shapes) (y k : ℕ) (i : Term) → names y (is_item s i k) ≡ true → names y i ≡ true
+item_names : (s : Shapes) (y : Place) (k : ℕ) (i : Term) → names y (is_item s i k) ≡ true → names y i ≡ true
 item_names s y k i = by_number (nat_lt k (2 ^ (shape_of s i).bits))
   where
     by_number : (b : Bool) → names y (cond b (Binary op.Eq i (Constant (pos k) (shape_of s i))) never) ≡ true → names y i ≡ true
     by_number true h = sym (or-false (names y i)) ∙ h
     by_number false h = absurd (false≢true h)
 
-last_names : (s : Shapes) (y k : ℕ) (i : Term) → names y (is_last s i k) ≡ true → names y i ≡ true
+last_names : (s : Shapes) (y : Place) (k : ℕ) (i : Term) → names y (is_last s i k) ≡ true → names y i ≡ true
 last_names s y k i = by_number (nat_lt k (2 ^ (shape_of s i).bits))
   where
     by_number : (b : Bool) → names y (cond b (Binary op.Ge i (Constant (pos k) (shape_of s i))) never) ≡ true → names y i ≡ true
@@ -131,15 +132,15 @@ last_names s y k i = by_number (nat_lt k (2 ^ (shape_of s i).bits))
 under : (m c d r : Bool) → (c ≡ true → m ≡ true) → (((c && (d || (false || false))) || (r || false)) || false) ≡ true → ((m && d) || r) ≡ true
 under m c d r f h = grind (arith, nat_tests)
 
-reads_when : (x y : ℕ) (c : Term) (so : Block) (m : Bool) → (names y c ≡ true → m ≡ true) → reads_block x y (when c so) ≡ true → ((m && drives_block x so) || reads_block x y so) ≡ true
+reads_when : (x : ℕ) (y : Place) (c : Term) (so : Block) (m : Bool) → (names y c ≡ true → m ≡ true) → reads_block x y (when c so) ≡ true → ((m && drives_block x so) || reads_block x y so) ≡ true
 reads_when x y c so m f h = under m (names y c) (drives_block x so) (reads_block x y so) f h
 
-reads_some_when : (x y : ℕ) (c : Term) (so : Block) (m : Bool) → (names y c ≡ true → m ≡ true) → reads_block x y (some_when c so) ≡ true → ((m && drives_block x so) || reads_block x y so) ≡ true
+reads_some_when : (x : ℕ) (y : Place) (c : Term) (so : Block) (m : Bool) → (names y c ≡ true → m ≡ true) → reads_block x y (some_when c so) ≡ true → ((m && drives_block x so) || reads_block x y so) ≡ true
 reads_some_when x y c Done m f h = absurd (false≢true h)
 reads_some_when x y c (Then t ts) m f h = reads_when x y c (Then t ts) m f h
 
 -- what one of two blocks reads
-either_reads : (x y : ℕ) (a b : Block) (g : Bool) → (reads_block x y a ≡ true → g ≡ true) → (reads_block x y b ≡ true → g ≡ true) → reads_block x y (append a b) ≡ true → g ≡ true
+either_reads : (x : ℕ) (y : Place) (a b : Block) (g : Bool) → (reads_block x y a ≡ true → g ≡ true) → (reads_block x y b ≡ true → g ≡ true) → reads_block x y (append a b) ≡ true → g ≡ true
 either_reads x y a b g f k h = elim (or_cases (reads_block x y a) (reads_block x y b) (sym (reads_append x y a b) ∙ h)) [ inl p ↦ f p | inr p ↦ k p ]
 
 whole_reads : (d e : Bool) → ((d && (e || false)) || false) ≡ true → (d && (e || false)) ≡ true
@@ -159,18 +160,18 @@ item_later : (d ds e n ns i : Bool) → (ds && (e || (ns || i))) ≡ true → ((
 item_later d ds e n ns i h = grind (arith, nat_tests)
 
 -- a lone item reads under its condition or without
-own_reads : (s : Shapes) (x y k : ℕ) (own more : Block) (i : Term) → reads_block x y (item_assigns s k own NoTarget more i) ≡ true → ((names y i && drives_block x own) || reads_block x y own) ≡ true
+own_reads : (s : Shapes) (x : ℕ) (y : Place) (k : ℕ) (own more : Block) (i : Term) → reads_block x y (item_assigns s k own NoTarget more i) ≡ true → ((names y i && drives_block x own) || reads_block x y own) ≡ true
 own_reads s x y k own more i = by_number (nat_eq k 0)
   where
     by_number : (b : Bool) → reads_block x y (cond b own (when (is_last s i k) own)) ≡ true → ((names y i && drives_block x own) || reads_block x y own) ≡ true
     by_number true h = or_right (names y i && drives_block x own) (reads_block x y own) h
     by_number false h = reads_when x y (is_last s i k) own (names y i) (last_names s y k i) h
 
-item_with : (s : Shapes) (x y : ℕ) (own : Block) (t : Target) (e : Term) (i : Bool) → drives_block x own ≡ is_target x t → ((i && drives_block x own) || reads_block x y own) ≡ true → ((i && is_target x t) || reads_block x y own) ≡ true
+item_with : (s : Shapes) (x : ℕ) (y : Place) (own : Block) (t : Target) (e : Term) (i : Bool) → drives_block x own ≡ is_target x t → ((i && drives_block x own) || reads_block x y own) ≡ true → ((i && is_target x t) || reads_block x y own) ≡ true
 item_with s x y own t e i d h = sym (ap (λ b. (i && b) || reads_block x y own) d) ∙ h
 
 mutual
-  assigns_read : (s : Shapes) (n x y : ℕ) → ShapeLaws s n → (t : Target) → TargetKeeps s n t → (e : Term) → reads_block x y (assigns s t e) ≡ true → (is_target x t && (names y e || target_names y t)) ≡ true
+  assigns_read : (s : Shapes) (n x : ℕ) (y : Place) → ShapeLaws s n → (t : Target) → TargetKeeps s n t → (e : Term) → reads_block x y (assigns s t e) ≡ true → (is_target x t && (names y e || target_names y t)) ≡ true
   assigns_read s n x y laws (Whole z) p e h = whole_reads (nat_eq z x) (names y e) h
   assigns_read s n x y laws (Part z low len) p e h = whole_reads (nat_eq z x) (names y e) h
   assigns_read s n x y laws (CatTarget parts) p e h = parts_read s n x y laws parts p.1 e h
@@ -180,7 +181,7 @@ mutual
       picked : (d e n i j : Bool) → (i ≡ true → j ≡ true) → (d && (e || (n || i))) ≡ true → (d && (e || (n || j))) ≡ true
       picked d e n i j f h = grind (arith, nat_tests)
 
-  parts_read : (s : Shapes) (n x y : ℕ) → ShapeLaws s n → (ts : Targets) → TargetsKeep s n ts → (e : Term) → reads_block x y (parts_assigns s ts e) ≡ true → (some_target x ts && (names y e || targets_name y ts)) ≡ true
+  parts_read : (s : Shapes) (n x : ℕ) (y : Place) → ShapeLaws s n → (ts : Targets) → TargetsKeep s n ts → (e : Term) → reads_block x y (parts_assigns s ts e) ≡ true → (some_target x ts && (names y e || targets_name y ts)) ≡ true
   parts_read s n x y laws NoTarget p e h = absurd (false≢true h)
   parts_read s n x y laws (MoreTargets t ts) p e h =
       either_reads x y (assigns s t e) (parts_assigns s ts (without_low s (target_bits s t) e)) (some_target x (MoreTargets t ts) && (names y e || targets_name y (MoreTargets t ts)))
@@ -188,7 +189,7 @@ mutual
       (λ q. part_later (is_target x t) (some_target x ts) (names y e) (target_names y t) (targets_name y ts) (parts_read s n x y laws ts p.1 (without_low s (target_bits s t) e) q))
       h
 
-  items_read : (s : Shapes) (n x y : ℕ) → ShapeLaws s n → (k : ℕ) (ts : Targets) → TargetsKeep s n ts → (i e : Term) → reads_block x y (items_assigns s k ts i e) ≡ true → (some_target x ts && (names y e || (targets_name y ts || names y i))) ≡ true
+  items_read : (s : Shapes) (n x : ℕ) (y : Place) → ShapeLaws s n → (k : ℕ) (ts : Targets) → TargetsKeep s n ts → (i e : Term) → reads_block x y (items_assigns s k ts i e) ≡ true → (some_target x ts && (names y e || (targets_name y ts || names y i))) ≡ true
   items_read s n x y laws k NoTarget p i e h = absurd (false≢true h)
   items_read s n x y laws k (MoreTargets t NoTarget) p i e h =
       let own = assigns s t e in
@@ -205,7 +206,7 @@ mutual
 
 -- ---- branches
 
-lone_reads : (x y : ℕ) (c : Term) (b chained rest : Block) → reads_block x y (first_branch c b NoBranch chained rest) ≡ true
+lone_reads : (x : ℕ) (y : Place) (c : Term) (b chained rest : Block) → reads_block x y (first_branch c b NoBranch chained rest) ≡ true
     → ((names y c && (drives_block x b || (false || drives_block x rest))) || (reads_block x y b || reads_block x y rest)) ≡ true
 lone_reads x y c Done chained Done h = absurd (false≢true h)
 lone_reads x y c Done chained (Then t ts) h = sym (or-false ((names y c && (false || (false || drives_block x (Then t ts)))) || (false || reads_block x y (Then t ts)))) ∙ h
@@ -243,18 +244,18 @@ arm_step o d d' ds dr r r' rs q e f h = grind (arith, nat_tests)
 arms_step : (o d ds dr r rs q : Bool) → ((o && (ds || dr)) || (rs || q)) ≡ true → ((o && ((d || ds) || dr)) || ((r || rs) || q)) ≡ true
 arms_step o d ds dr r rs q h = grind (arith, nat_tests)
 
-key_names : (s : Shapes) (y : ℕ) (on : Term) (seen : List ℤ) (key : ℤ) → names y (is_key s on seen key) ≡ true → names y on ≡ true
+key_names : (s : Shapes) (y : Place) (on : Term) (seen : List ℤ) (key : ℤ) → names y (is_key s on seen key) ≡ true → names y on ≡ true
 key_names s y on seen key = by_test (is_value s on key && not (is_among_keys key seen))
   where
     by_test : (b : Bool) → names y (cond b (Binary op.Eq on (key_of s on key)) never) ≡ true → names y on ≡ true
     by_test true h = sym (or-false (names y on)) ∙ h
     by_test false h = absurd (false≢true h)
 
-abbrev some_names_it : ℕ → Option Term → Bool
+abbrev some_names_it : Place → Option Term → Bool
 some_names_it y None = false
 some_names_it y (Some c) = names y c
 
-no_key_names : (s : Shapes) (y : ℕ) (on : Term) (seen : List ℤ) (none : Option Term) (key : ℤ) → (some_names_it y none ≡ true → names y on ≡ true) → some_names_it y (no_key s on seen none key) ≡ true → names y on ≡ true
+no_key_names : (s : Shapes) (y : Place) (on : Term) (seen : List ℤ) (none : Option Term) (key : ℤ) → (some_names_it y none ≡ true → names y on ≡ true) → some_names_it y (no_key s on seen none key) ≡ true → names y on ≡ true
 no_key_names s y on seen none key f = by_test (is_value s on key && not (is_among_keys key seen)) none f
   where
     by_test : (b : Bool) (before : Option Term) → (some_names_it y before ≡ true → names y on ≡ true) → some_names_it y (cond b (and_none before (Binary op.Ne on (key_of s on key))) before) ≡ true → names y on ≡ true
@@ -262,12 +263,12 @@ no_key_names s y on seen none key f = by_test (is_value s on key && not (is_amon
     by_test true (Some c) f h = elim (or_cases (names y c) (names y on || false) h) [ inl p ↦ f p | inr p ↦ sym (or-false (names y on)) ∙ p ]
     by_test false before f h = f h
 
-otherwise_reads : (x y : ℕ) (none : Option Term) (rest : Block) (o : Bool) → (some_names_it y none ≡ true → o ≡ true) → reads_block x y (otherwise none rest) ≡ true → ((o && drives_block x rest) || reads_block x y rest) ≡ true
+otherwise_reads : (x : ℕ) (y : Place) (none : Option Term) (rest : Block) (o : Bool) → (some_names_it y none ≡ true → o ≡ true) → reads_block x y (otherwise none rest) ≡ true → ((o && drives_block x rest) || reads_block x y rest) ≡ true
 otherwise_reads x y None rest o f h = or_right (o && drives_block x rest) (reads_block x y rest) h
 otherwise_reads x y (Some c) rest o f h = reads_some_when x y c rest o f h
 
 mutual
-  pub flat_reads : (s : Shapes) (n x y : ℕ) → ShapeLaws s n → (t : Stmt) → StmtKeeps s n t → reads_block x y (flat s t) ≡ true → reads x y t ≡ true
+  pub flat_reads : (s : Shapes) (n x : ℕ) (y : Place) → ShapeLaws s n → (t : Stmt) → StmtKeeps s n t → reads_block x y (flat s t) ≡ true → reads x y t ≡ true
   flat_reads s n x y laws (Assign t e) p h =
       assigned (is_target x t) (names y (lower_term s e)) (names y e) (target_names y t) (laws.lower_names y e p.2) (assigns_read s n x y laws t p.0 (lower_term s e) h)
     where
@@ -283,7 +284,7 @@ mutual
       cased : (o' o d r' r k : Bool) → (o' ≡ true → o ≡ true) → r' ≡ r → ((o' && (d || r')) || k) ≡ true → ((o && (d || r)) || k) ≡ true
       cased o' o d r' r k f e h = grind (arith, nat_tests)
 
-  if_read : (s : Shapes) (n x y : ℕ) → ShapeLaws s n → (bs : Branches) → BranchesKeep s n bs → (rest : Block) (q : Bool) → (reads_block x y rest ≡ true → q ≡ true)
+  if_read : (s : Shapes) (n x : ℕ) (y : Place) → ShapeLaws s n → (bs : Branches) → BranchesKeep s n bs → (rest : Block) (q : Bool) → (reads_block x y rest ≡ true → q ≡ true)
       → reads_block x y (flat_if s bs rest) ≡ true → reads_branch x y bs (drives_block x rest) q ≡ true
   if_read s n x y laws NoBranch p rest q f h = f h
   if_read s n x y laws (Branch c b NoBranch) p rest q f h =
@@ -301,7 +302,7 @@ mutual
       (λ w. later_step (names y c) (names y c') (drives_block x b) ds (drives_block x rest) (reads_block x y b) rs (laws.lower_names y c p.0) (chain_read s n x y laws (fails s c') (Branch d e more) p.2 rest q f w))
       h
 
-  chain_read : (s : Shapes) (n x y : ℕ) → ShapeLaws s n → (none : Term) (bs : Branches) → BranchesKeep s n bs → (rest : Block) (q : Bool) → (reads_block x y rest ≡ true → q ≡ true)
+  chain_read : (s : Shapes) (n x : ℕ) (y : Place) → ShapeLaws s n → (none : Term) (bs : Branches) → BranchesKeep s n bs → (rest : Block) (q : Bool) → (reads_block x y rest ≡ true → q ≡ true)
       → reads_block x y (flat_chain s none bs rest) ≡ true → ((names y none && (drives_branch x bs || drives_block x rest)) || reads_branch x y bs (drives_block x rest) q) ≡ true
   chain_read s n x y laws none NoBranch p rest q f h = rest_step (names y none) (drives_block x rest) q (reads_block x y rest) f (reads_some_when x y none rest (names y none) (λ w. w) h)
   chain_read s n x y laws none (Branch c b more) p rest q f h =
@@ -316,7 +317,7 @@ mutual
       (λ w. after_step (names y none) (names y c) (names y c') (drives_block x b) (drives_branch x more) (drives_block x rest) (reads_block x y b) rs (laws.lower_names y c p.0) (chain_read s n x y laws failing more p.2 rest q f w))
       h
 
-  arms_read : (s : Shapes) (n x y : ℕ) → ShapeLaws s n → (on : Term) (seen : List ℤ) (none : Option Term) → (some_names_it y none ≡ true → names y on ≡ true) → (arms : Arms) → ArmsKeep s n arms → (rest : Block) (q : Bool) → (reads_block x y rest ≡ true → q ≡ true)
+  arms_read : (s : Shapes) (n x : ℕ) (y : Place) → ShapeLaws s n → (on : Term) (seen : List ℤ) (none : Option Term) → (some_names_it y none ≡ true → names y on ≡ true) → (arms : Arms) → ArmsKeep s n arms → (rest : Block) (q : Bool) → (reads_block x y rest ≡ true → q ≡ true)
       → reads_block x y (flat_arms s on seen none arms rest) ≡ true → ((names y on && (drives_arm x arms || drives_block x rest)) || (reads_arm x y arms || q)) ≡ true
   arms_read s n x y laws on seen none o NoArm p rest q f h = rest_step (names y on) (drives_block x rest) q (reads_block x y rest) f (otherwise_reads x y none rest (names y on) o h)
   arms_read s n x y laws on seen none o (Arm key b more) p rest q f h =
@@ -328,7 +329,7 @@ mutual
       (arms_read s n x y laws on (key ∷ seen) (no_key s on seen none key) (no_key_names s y on seen none key o) more p.1 rest q f w))
       h
 
-  pub flat_block_reads : (s : Shapes) (n x y : ℕ) → ShapeLaws s n → (b : Block) → BlockKeeps s n b → reads_block x y (flat_block s b) ≡ true → reads_block x y b ≡ true
+  pub flat_block_reads : (s : Shapes) (n x : ℕ) (y : Place) → ShapeLaws s n → (b : Block) → BlockKeeps s n b → reads_block x y (flat_block s b) ≡ true → reads_block x y b ≡ true
   flat_block_reads s n x y laws Done p h = absurd (false≢true h)
   flat_block_reads s n x y laws (Then t ts) p h =
       either_reads x y (flat s t) (flat_block s ts) (reads x y t || reads_block x y ts)

@@ -1,15 +1,13 @@
 -- Flat statements keep what their statements kept, each has one branch, and they are no deeper.
 use Rattle.std.proofs.Common.{◌≡◌, ℕ, ℤ, pos, Bool, true, false, ◌&&◌, not, cond, List, [], ◌∷◌, Option, Some, None, ◌+◌, ◌^◌, ◌≤◌, max, refl, sym, ◌∙◌, ap, arith}
-use Rattle.std.specs.Prelude.{nat_eq, nat_lt, min}
-use Rattle.std.proofs.lemmas.Bool.{ne_eqb, le-leb, and_from, and_parts, true≢false}
+use Rattle.std.specs.Prelude.{nat_eq, nat_lt}
+use Rattle.std.proofs.lemmas.Bool.{and_from, and_parts, true≢false}
 use Rattle.std.proofs.lemmas.Bool.Decides.{nat_tests}
 use Rattle.lx_num.specs.declared.Shape.{Shape}
 use Rattle.lx_num.specs.Ints.{unsigned, shape}
 use Rattle.lx_tables.specs.declared.operators.Op.TheVariants as op
-use Rattle.lx_circuit.specs.declared.WidthFault.{WidthFault}
-use Rattle.lx_circuit.specs.declared.WidthFault.TheVariants.{TooWide, BadWidth}
 use Rattle.lx_circuit.specs.Terms.{Term, Constant, Binary}
-use Rattle.lx_circuit.specs.Shapes.{Shapes, shape_of, fault_of, or_else, too_wide, constant_fault, joined, joined_fault, binary_fault}
+use Rattle.lx_circuit.specs.Shapes.{Shapes, shape_of, fault_of, or_else, constant_fault, joined, joined_fault, binary_fault}
 use Rattle.lx_circuit.specs.Statements.{Target, Targets, Whole, Part, CatTarget, PickTarget, NoTarget, MoreTargets, Stmt, Assign, If, Case, Branches, NoBranch, Branch, Arms, NoArm, Arm, Block, Done, Then, target_bits, sum_bits, most_bits}
 use Rattle.lx_fhdl.specs.Nodes.{IsSmall}
 use Rattle.lx_fhdl.specs.Keeping.{target_depth, targets_depth, stmt_depth, branches_depth, arms_depth, block_depth}
@@ -20,14 +18,10 @@ use Rattle.lx_lowering.specs.Lowering.{is_sound, some_targets, TargetKeeps, Targ
 use Rattle.lx_lowering.proofs.SplitFacts.{is_flat, is_flat_block as are_flat}
 use Rattle.lx_lowering.proofs.Appends.{keeps_append, depth_append}
 use Rattle.lx_lowering.proofs.Targets.{ShapeLaws, without_low_keeps}
+use Rattle.lx_lowering.proofs.Picks.{small_constant, compared}
+use Rattle.lx_lowering.proofs.TermFacts.{after_none}
 
 -- ---- conditions keep what their expressions kept
-
-not_none : (n : ℕ) → n ≤ 127 → too_wide n ≡ None
-not_none n h = ap (λ b. cond b None (Some (TooWide (min n 4294967295)))) (le-leb n 127 h)
-
-constant_sound : (a : Shape) → IsSmall a → constant_fault a ≡ None
-constant_sound a p = ap (λ b. cond b (Some BadWidth) (too_wide a.bits)) (ne_eqb a.bits 0 (λ e. omega (arith, p.some))) ∙ not_none a.bits p.most
 
 joined_same : (a : Shape) → (joined a a).bits ≡ a.bits
 joined_same a = same a.bits a.signed
@@ -36,17 +30,10 @@ joined_same a = same a.bits a.signed
     same n true = omega arith
     same n false = omega arith
 
--- a comparison with a constant of its shape
-compared_fault : (a : Shape) → IsSmall a → joined_fault a a (unsigned 1) ≡ None
-compared_fault a p = ap (λ n. or_else (too_wide n) (too_wide 1)) (joined_same a) ∙ ap (λ o. or_else o (too_wide 1)) (not_none a.bits p.most)
-
 -- a condition: one unsigned bit
 pub record IsCondition (s : Shapes) (n : ℕ) (c : Term) : Type 0 where
   pub keeps : TermKeeps s n c
   pub bit : shape_of s c ≡ unsigned 1
-
-none_then : (f g : Option WidthFault) → f ≡ None → g ≡ None → or_else f g ≡ None
-none_then f g e h = ap (λ o. or_else o g) e ∙ h
 
 pub never_condition : (s : Shapes) (n : ℕ) → IsCondition s n never
 never_condition s n = record { keeps = record { sound = refl; fault = refl }; bit = refl }
@@ -56,8 +43,8 @@ pub equals_condition : (s : Shapes) (n : ℕ) (c : Term) (k : ℤ) → IsSmall (
 equals_condition s n c k p q = record {
   keeps = record {
     sound = and_from (is_sound n c) true q.sound refl;
-    fault = none_then (fault_of s c) (or_else (constant_fault (shape_of s c)) (joined_fault (shape_of s c) (shape_of s c) (unsigned 1))) q.fault
-        (none_then (constant_fault (shape_of s c)) (joined_fault (shape_of s c) (shape_of s c) (unsigned 1)) (constant_sound (shape_of s c) p) (compared_fault (shape_of s c) p));
+    fault = after_none (fault_of s c) (or_else (constant_fault (shape_of s c)) (joined_fault (shape_of s c) (shape_of s c) (unsigned 1))) q.fault
+        (after_none (constant_fault (shape_of s c)) (joined_fault (shape_of s c) (shape_of s c) (unsigned 1)) (small_constant (shape_of s c) p) (compared (shape_of s c) p));
   };
   bit = refl;
 }
@@ -72,8 +59,8 @@ pub and_condition : (s : Shapes) (n : ℕ) (a b : Term) → IsCondition s n a �
 and_condition s n a b p q = record {
   keeps = record {
     sound = and_from (is_sound n a) (is_sound n b) p.keeps.sound q.keeps.sound;
-    fault = none_then (fault_of s a) (or_else (fault_of s b) (binary_fault op.And (shape_of s a) (shape_of s b))) p.keeps.fault
-        (none_then (fault_of s b) (binary_fault op.And (shape_of s a) (shape_of s b)) q.keeps.fault
+    fault = after_none (fault_of s a) (or_else (fault_of s b) (binary_fault op.And (shape_of s a) (shape_of s b))) p.keeps.fault
+        (after_none (fault_of s b) (binary_fault op.And (shape_of s a) (shape_of s b)) q.keeps.fault
         (ap (λ x. binary_fault op.And x (shape_of s b)) p.bit ∙ ap (λ x. binary_fault op.And (unsigned 1) x) q.bit));
   };
   bit = ap (λ x. joined x (shape_of s b)) p.bit ∙ ap (λ x. joined (unsigned 1) x) q.bit;

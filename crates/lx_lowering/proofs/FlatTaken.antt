@@ -3,9 +3,10 @@ use Rattle.std.proofs.Common.{◌≡◌, ℕ, ℤ, Bool, ◌&&◌, ◌||◌, not
 use Rattle.std.specs.Ordering.{int_eq}
 use Rattle.lx_num.specs.Ints.{Fits}
 use Rattle.lx_tables.specs.declared.operators.Op.TheVariants as op
+use Rattle.lx_circuit.specs.Places.{Values}
 use Rattle.lx_circuit.specs.Terms.{Term, Binary}
 use Rattle.lx_circuit.specs.Shapes.{Shapes, shape_of}
-use Rattle.lx_circuit.specs.Values.{Values, value_of, is_zero, flag}
+use Rattle.lx_circuit.specs.Values.{value_of, is_zero, flag}
 use Rattle.lx_circuit.specs.Statements.{Stmt, Assign, If, Case, Branches, NoBranch, Branch, Arms, NoArm, Arm, Block, Done, Then, Piece, pieces, taken, taken_branch, taken_arm, taken_block}
 use Rattle.lx_fhdl.specs.Nodes.{IsSmall}
 use Rattle.lx_lowering.specs.Terms.{lower_term}

@@ -1,31 +1,29 @@
 -- Statements of one signal that read nothing give what the constant in their place gives.
-use Rattle.std.proofs.Common.{◌≡◌, ℕ, ℤ, ◌+◌, ◌*◌, ◌%◌, ◌^◌, ◌<◌, ◌≤◌, Bool, true, false, ◌&&◌, ◌||◌, not, nat_eq, cond, refl, sym, ◌∙◌, ap, arith, eqb-true, eq-eqb}
+use Rattle.std.proofs.Common.{◌≡◌, ℕ, ℤ, ◌%◌, ◌^◌, ◌<◌, ◌≤◌, Bool, true, false, ◌&&◌, ◌||◌, not, nat_eq, refl, sym, ◌∙◌, ap, arith, eqb-true, eq-eqb}
 use Rattle.std.proofs.Math.Bool.{or-false, and-true, and-false}
-use Rattle.std.proofs.Math.Nat.{mod-eq_of_lt, div-eq_of_lt}
-use Rattle.std.proofs.lemmas.Bool.{and_parts, or_from, ne_eqb, le-leb}
-use Rattle.std.specs.Prelude.{None, nat_le}
+use Rattle.std.proofs.lemmas.Bool.{and_parts, or_from}
 use Rattle.std.proofs.lemmas.Nat.{pow_pos, mod_below}
-use Rattle.lx_num.specs.declared.Shape.{Shape}
 use Rattle.lx_num.specs.Ints.{modulo, read_bits, wrapped, FitsBits}
-use Rattle.lx_num.proofs.Ints.{modulo-below}
-use Rattle.lx_num.proofs.Ranges.{FitsBits-read_bits, read_bits-modulo, wrap_bits_same}
-use Rattle.lx_circuit.specs.Terms.{Term, Terms, Constant, Signal, Unary, Binary, Mux, Cat, Replicate, Slice, Pick, NoTerm, MoreTerms}
-use Rattle.lx_circuit.specs.Shapes.{Shapes, constant_fault}
-use Rattle.lx_circuit.specs.Values.{Values}
-use Rattle.lx_circuit.specs.Statements.{Target, Whole, Part, CatTarget, PickTarget, Stmt, Assign, If, Case, NoBranch, Branch, Block, Done, Then, taken_block, laid_over, after_pieces, result, is_target, drives, drives_block}
+use Rattle.lx_num.proofs.Ranges.{FitsBits-read_bits, wrap_bits_same}
+use Rattle.lx_circuit.specs.Places.{Place, Values}
+use Rattle.lx_circuit.specs.Terms.{Term, Terms, Constant, Signal, Unary, Binary, Mux, Cat, Replicate, Slice, Pick, Fetch, NoTerm, MoreTerms}
+use Rattle.lx_circuit.specs.Shapes.{Shapes}
+use Rattle.lx_circuit.specs.Statements.{Target, Whole, Part, CatTarget, PickTarget, Stmt, Assign, If, Case, NoBranch, Branch, Block, Done, Then, taken_block, after_pieces, result, is_target, drives, drives_block}
 use Rattle.lx_circuit.specs.Reads.{names, some_names, target_names, reads, reads_block}
 use Rattle.lx_circuit.proofs.Frames.{block_same}
+use Rattle.lx_circuit.proofs.Whole.{whole_assigned}
 use Rattle.lx_fhdl.specs.Nodes.{IsSmall}
 use Rattle.lx_fhdl.specs.Keeping.{stmt_depth, block_depth}
 use Rattle.lx_fhdl.specs.Lowered.{is_plain_target, is_done, is_for, are_for}
 use Rattle.lx_lowering.specs.Flat.{one}
 use Rattle.lx_lowering.specs.Constants.{names_none, all_name_none, reads_none, block_reads_none, zeros, constant_of, or_constant, folded}
 use Rattle.lx_lowering.specs.Lowering.{BlockKeeps}
+use Rattle.lx_lowering.proofs.Picks.{small_constant}
 
 -- ---- what reads nothing
 
 mutual
-  names_nothing : (y : ℕ) (t : Term) → names_none t ≡ true → names y t ≡ false
+  names_nothing : (y : Place) (t : Term) → names_none t ≡ true → names y t ≡ false
   names_nothing y (Constant value a) e = refl
   names_nothing y (Signal x) e = absurd (cc)
   names_nothing y (Unary o a) e = names_nothing y a e
@@ -40,8 +38,9 @@ mutual
   names_nothing y (Pick items index) e =
       let p = and_parts (all_name_none items) (names_none index) e in
       or_from (some_names y items) (names y index) (some_name_nothing y items p.0) (names_nothing y index p.1)
+  names_nothing y (Fetch m width i) e = absurd (cc)
 
-  some_name_nothing : (y : ℕ) (ts : Terms) → all_name_none ts ≡ true → some_names y ts ≡ false
+  some_name_nothing : (y : Place) (ts : Terms) → all_name_none ts ≡ true → some_names y ts ≡ false
   some_name_nothing y NoTerm e = refl
   some_name_nothing y (MoreTerms t ts) e = let p = and_parts (names_none t) (all_name_none ts) e in or_from (names y t) (some_names y ts) (names_nothing y t p.0) (some_name_nothing y ts p.1)
 
@@ -52,14 +51,14 @@ both_for x c b rest e =
     let q = and_parts (are_for x b && true) (are_for x rest) p.1 in
     (p.0, (and_parts (are_for x b) true q.0).0, q.1)
 
-plain_names : (x y : ℕ) (t : Target) → is_plain_target x t ≡ true → target_names y t ≡ false
+plain_names : (x : ℕ) (y : Place) (t : Target) → is_plain_target x t ≡ true → target_names y t ≡ false
 plain_names x y (Whole z) f = refl
 plain_names x y (Part z low len) f = refl
 plain_names x y (CatTarget parts) f = absurd (cc)
 plain_names x y (PickTarget items index) f = absurd (cc)
 
 mutual
-  stmt_reads_nothing : (x z y : ℕ) (st : Stmt) → is_for x st ≡ true → reads_none st ≡ true → reads z y st ≡ false
+  stmt_reads_nothing : (x z : ℕ) (y : Place) (st : Stmt) → is_for x st ≡ true → reads_none st ≡ true → reads z y st ≡ false
   stmt_reads_nothing x z y (Assign t e) f r =
       ap (λ b. is_target z t && b) (or_from (names y e) (target_names y t) (names_nothing y e r) (plain_names x y t f)) ∙ and-false (is_target z t)
   stmt_reads_nothing x z y (If NoBranch rest) f r = absurd (cc)
@@ -71,7 +70,7 @@ mutual
       rw (names_nothing y c q.0, reads_nothing x z y b both.1 (and_parts (block_reads_none b) true q.1).0, reads_nothing x z y rest both.2 p.1) refl
   stmt_reads_nothing x z y (Case on arms rest) f r = absurd (cc)
 
-  reads_nothing : (x z y : ℕ) (b : Block) → are_for x b ≡ true → block_reads_none b ≡ true → reads_block z y b ≡ false
+  reads_nothing : (x z : ℕ) (y : Place) (b : Block) → are_for x b ≡ true → block_reads_none b ≡ true → reads_block z y b ≡ false
   reads_nothing x z y Done f r = refl
   reads_nothing x z y (Then st ss) f r =
       let both = and_parts (is_for x st) (are_for x ss) f in
@@ -93,24 +92,11 @@ by_fold s x start (Then t ts) P kept changed = by_answer (block_reads_none (Then
     by_answer true e = changed refl e
     by_answer false e = kept
 
--- bits that cover a pattern leave nothing of it
-laid_whole : (p n : ℕ) (z : ℤ) → p < 2 ^ n → laid_over p 0 n z ≡ modulo z (2 ^ n)
-laid_whole p n z h =
-    let e : 2 ^ (0 + n) ≡ 2 ^ n = ap (λ (k : ℕ). 2 ^ k) (omega arith) in
-    let l : p < 2 ^ (0 + n) = omega arith in
-    omega (arith, mod_below p (2 ^ 0) (pow_pos 0), ap (λ (k : ℕ). 2 ^ (0 + n) * k) (div-eq_of_lt l))
-
 -- a whole assignment of a value that fits gives this value
 whole_result : (s : Shapes) (v : Values) (x : ℕ) (start r : ℤ) → 1 ≤ (s x).bits → FitsBits (s x).bits (s x).signed r → result s x start (taken_block s v (one (Assign (Whole x) (Constant r (s x))))) ≡ r
 whole_result s v x start r some fits =
-    let n = (s x).bits in
-    let p = modulo start (2 ^ n) in
-    let below : p < 2 ^ n = modulo-below start (2 ^ n) (pow_pos n) in
-    let same : wrapped (s x) r ≡ r = wrap_bits_same n (s x).signed r some fits in
-    let after : cond (nat_eq x x) (laid_over p 0 n (wrapped (s x) r)) p ≡ modulo r (2 ^ n) =
-    ap (λ b. cond b (laid_over p 0 n (wrapped (s x) r)) p) (eq-eqb x x refl) ∙ (laid_whole p n (wrapped (s x) r) below ∙ ap (λ z. modulo z (2 ^ n)) same) in
-    ap (λ (k : ℕ). read_bits n (s x).signed (k % 2 ^ n)) after
-    ∙ (ap (λ (k : ℕ). read_bits n (s x).signed k) (mod-eq_of_lt (modulo-below r (2 ^ n) (pow_pos n))) ∙ read_bits-modulo n (s x).signed r some fits)
+    let same : wrapped (s x) r ≡ r = wrap_bits_same (s x).bits (s x).signed r some fits in
+    whole_assigned s x start (wrapped (s x) r) ∙ (ap (λ z. wrapped (s x) z) same ∙ same)
 
 result_fits : (s : Shapes) (v : Values) (x : ℕ) (start : ℤ) (b : Block) → 1 ≤ (s x).bits → FitsBits (s x).bits (s x).signed (result s x start (taken_block s v b))
 result_fits s v x start b some =
@@ -167,20 +153,14 @@ folded_drives s x y start b f =
     by_fold s x start b (λ c. drives_block y c ≡ drives_block y b) refl
     (λ d r. or-false (nat_eq x y) ∙ sym (for_drives x y b f ∙ (rw d (and-true (nat_eq x y)))))
 
-pub folded_reads : (s : Shapes) (x z y : ℕ) (start : ℤ) (b : Block) → reads_block z y (folded s x start b) ≡ true → reads_block z y b ≡ true
+pub folded_reads : (s : Shapes) (x z : ℕ) (y : Place) (start : ℤ) (b : Block) → reads_block z y (folded s x start b) ≡ true → reads_block z y b ≡ true
 folded_reads s x z y start b =
     by_fold s x start b (λ c. reads_block z y c ≡ true → reads_block z y b ≡ true) (λ e. e)
     (λ d r e. absurd (let n : ((nat_eq x z && false) || false) ≡ false = or-false (nat_eq x z && false) ∙ and-false (nat_eq x z) in cc))
 
-constant_sound : (a : Shape) → IsSmall a → constant_fault a ≡ None
-constant_sound a small =
-    let some : nat_eq a.bits 0 ≡ false = ne_eqb a.bits 0 (λ e. omega (arith, small.some, e)) in
-    let most : nat_le a.bits 127 ≡ true = le-leb a.bits 127 small.most in
-    rw (some, most) refl
-
 pub folded_keeps : (s : Shapes) (n x : ℕ) (start : ℤ) (b : Block) → x < n → IsSmall (s x) → BlockKeeps s n b → BlockKeeps s n (folded s x start b)
 folded_keeps s n x start b lt small k =
-    by_fold s x start b (λ c. BlockKeeps s n c) k (λ d r. ((lt, small.most, record { sound = refl; fault = constant_sound (s x) small }), tt))
+    by_fold s x start b (λ c. BlockKeeps s n c) k (λ d r. ((lt, small.most, record { sound = refl; fault = small_constant (s x) small }), tt))
 
 stmt_deep : (st : Stmt) → 1 ≤ stmt_depth st
 stmt_deep (Assign t e) = omega arith

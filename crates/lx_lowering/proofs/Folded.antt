@@ -13,16 +13,9 @@ use Rattle.lx_lowering.specs.Constants.{block_reads_none, or_constant, folded}
 use Rattle.lx_lowering.specs.Lowering.{lists_from, IsOneConstant}
 use Rattle.lx_lowering.proofs.FoldFacts.{both_for}
 use Rattle.lx_lowering.proofs.ListFacts.{EachFor}
+use Rattle.lx_lowering.proofs.Appends.{append_done, append_all}
 
 -- ---- appended statements
-
-append_done : (a : Block) → append a Done ≡ a
-append_done Done = refl
-append_done (Then st ss) = ap (λ b. Then st b) (append_done ss)
-
-append_all : (a b d : Block) → append (append a b) d ≡ append a (append b d)
-append_all Done b d = refl
-append_all (Then st ss) b d = ap (λ r. Then st r) (append_all ss b d)
 
 -- a signal's statements in two blocks, one after the other
 split_append : (x : ℕ) (a b : Block) → split_block x (append a b) ≡ append (split_block x a) (split_block x b)

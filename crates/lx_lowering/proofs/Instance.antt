@@ -3,15 +3,18 @@ use Rattle.std.proofs.Common.{◌≡◌, ℕ, zero, suc, ◌<◌, true, false, r
 use Rattle.std.proofs.lemmas.Bool.{true≢false, ne_eqb}
 use Rattle.std.specs.Prelude.{negsuc, length}
 use Rattle.lx_num.proofs.Ranges.{fits_pos, fits_signed}
+use Rattle.lx_circuit.specs.Places.{Place, At, Word, Kept}
 use Rattle.lx_circuit.specs.Terms.{Signal}
 use Rattle.lx_circuit.specs.Statements.{drives_block}
-use Rattle.lx_circuit.specs.Circuit.{Domain, shapes, made, IsMade}
+use Rattle.lx_circuit.specs.Circuit.{Domain, shapes, made}
+use Rattle.lx_circuit.specs.Fitting.{IsMade}
 use Rattle.lx_circuit.specs.Reads.{reads_block, HasOrder}
+use Rattle.lx_circuit.proofs.Orders.{order_by_statements}
 use Rattle.lx_fhdl.specs.Nodes.{IsSmall}
 use Rattle.lx_fhdl.specs.Keeping.{EachOf}
 use Rattle.lx_lowering.specs.Lowering.{TermKeeps, StmtKeeps, BlockKeeps, CanBeLowered}
 use Rattle.lx_lowering.proofs.ListFacts.{undriven}
-use Rattle.lx_lowering.specs.Instance.{branches, arms, instance}
+use Rattle.lx_lowering.specs.Instance.{branches, arms, word_read, instance}
 
 signal_made : (x : ℕ) → IsMade (made instance x)
 unfolding instance
@@ -55,6 +58,10 @@ arms_keep =
       tt,
     )
 
+word_keeps : StmtKeeps (shapes instance) (length instance.signals) word_read
+unfolding instance
+word_keeps = ((omega arith, omega arith, omega arith), omega arith, record { sound = refl; fault = refl })
+
 domains_keep : EachOf (λ (d : Domain). BlockKeeps (shapes instance) (length instance.signals) d.stmts) instance.domains
 unfolding instance
 domains_keep = (((omega arith, omega arith, record { sound = refl; fault = refl }), tt), tt)
@@ -64,28 +71,35 @@ unfolding instance
 can_be_lowered = record {
   signals = record { each = signal_made };
   small = signal_small;
-  comb = (branches_keep, (arms_keep, tt));
+  comb = (branches_keep, (arms_keep, (word_keeps, tt)));
   domains = domains_keep;
 }
 
-rank : ℕ → ℕ
-rank zero = 1
-rank (suc zero) = 1
-rank (suc (suc x)) = 0
+rank : Place → ℕ
+rank (At zero) = 1
+rank (At (suc zero)) = 1
+rank (At (suc (suc x))) = 0
+rank (Word m k) = 0
+rank (Kept j) = 0
 
 idle : (x : ℕ) → drives_block (suc (suc x)) instance.comb ≡ false
 unfolding instance
 idle x = rw (ne_eqb 0 (suc (suc x)) (λ e. omega arith), ne_eqb 1 (suc (suc x)) (λ e. omega arith)) refl
 
-read_before : (x y : ℕ) → reads_block x y instance.comb ≡ true → rank y < rank x
+read_before : (x : ℕ) (y : Place) → reads_block x y instance.comb ≡ true → rank y < rank (At x)
 unfolding instance rank
-read_before zero zero r = absurd (cc)
-read_before zero (suc zero) r = absurd (cc)
-read_before zero (suc (suc y)) r = omega arith
-read_before (suc zero) zero r = absurd (cc)
-read_before (suc zero) (suc zero) r = absurd (cc)
-read_before (suc zero) (suc (suc y)) r = omega arith
+read_before zero (At zero) r = absurd (cc)
+read_before zero (At (suc zero)) r = absurd (cc)
+read_before zero (At (suc (suc y))) r = omega arith
+read_before zero (Word m k) r = omega arith
+read_before zero (Kept j) r = omega arith
+read_before (suc zero) (At zero) r = absurd (cc)
+read_before (suc zero) (At (suc zero)) r = absurd (cc)
+read_before (suc zero) (At (suc (suc y))) r = omega arith
+read_before (suc zero) (Word m k) r = omega arith
+read_before (suc zero) (Kept j) r = omega arith
 read_before (suc (suc x)) y r = absurd (true≢false (sym r ∙ undriven (suc (suc x)) y instance.comb (idle x)))
 
 pub has_order : HasOrder instance
-has_order = record { rank = rank; after = read_before }
+unfolding instance
+has_order = order_by_statements instance refl rank read_before

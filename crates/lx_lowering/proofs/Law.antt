@@ -1,9 +1,12 @@
 -- The law of lowering: the same runs, plain statements, constants where they read nothing, and an order of reads where there was one.
-use Rattle.std.proofs.Common.{ℕ, ◌<◌, length}
+use Rattle.std.proofs.Common.{ℕ, ◌<◌, length, ◌∙◌}
 use Rattle.lx_num.specs.Ints.{Fits}
+use Rattle.lx_circuit.specs.Places.{Values, At}
 use Rattle.lx_circuit.specs.Shapes.{Shapes}
-use Rattle.lx_circuit.specs.Values.{Values}
 use Rattle.lx_circuit.specs.Circuit.{Circuit, shapes}
+use Rattle.lx_circuit.specs.Fitting.{InputsFit}
+use Rattle.lx_circuit.specs.Runs.{Extends}
+use Rattle.lx_circuit.proofs.Runs.{extends_by_runs}
 use Rattle.lx_fhdl.specs.Nodes.{IsSmall}
 use Rattle.lx_lowering.specs.Lowering.{CanBeLowered, Lowers, lowered}
 use Rattle.lx_lowering.proofs.TermFacts.{term_small, term_fits}
@@ -23,7 +26,7 @@ shape_laws_of s n small = record {
   lower_names = λ y t k e. lower_names s y t e;
 }
 
-term_laws_of : (s : Shapes) (n : ℕ) (v : Values) → ((x : ℕ) → x < n → IsSmall (s x)) → ((x : ℕ) → x < n → Fits (s x) (v x)) → TermLaws s n v
+term_laws_of : (s : Shapes) (n : ℕ) (v : Values) → ((x : ℕ) → x < n → IsSmall (s x)) → ((x : ℕ) → x < n → Fits (s x) (v (At x))) → TermLaws s n v
 term_laws_of s n v small fits = record {
   small = small;
   fits = fits;
@@ -45,3 +48,12 @@ flat_laws s n small = record {
 
 pub lowering : (c : Circuit) → CanBeLowered c → Lowers c (lowered c)
 lowering c can = lowers c can (flat_laws (shapes c) (length c.signals) can.small)
+
+-- ---- an extension by no signals
+
+inputs_fit : (c : Circuit) → CanBeLowered c → (i : Values) → InputsFit c i → InputsFit (lowered c) i
+unfolding lowered
+inputs_fit c can i f = record { each = λ x e. f.each x ((lowering c can).roles x ∙ e) }
+
+pub lowering_extends : (n : ℕ) (c : Circuit) → CanBeLowered c → Extends n c (lowered c)
+lowering_extends n c can = extends_by_runs n c (lowered c) (inputs_fit c can) (lowering c can).runs

@@ -2,8 +2,8 @@
 use Rattle.std.proofs.Common.{◌≡◌, ℕ, ◌+◌, ◌<◌, ◌≤◌, Bool, true, false, ◌&&◌, ◌||◌, List, [], ◌∷◌, length, not, nat_eq, refl, sym, ◌∙◌, ap, subst, arith, eqb-true, ne_eqb}
 use Rattle.std.proofs.Math.Bool.{or-false, and-false}
 use Rattle.std.proofs.lemmas.Bool.{and_parts, and_right, or_parts, or_from, eqb-false}
+use Rattle.lx_circuit.specs.Places.{Place, Values}
 use Rattle.lx_circuit.specs.Shapes.{Shapes}
-use Rattle.lx_circuit.specs.Values.{Values}
 use Rattle.lx_circuit.specs.Statements.{Stmt, Assign, If, Case, Branches, NoBranch, Branch, Arms, NoArm, Arm, Block, Done, Then, taken_block, after_pieces, drives, drives_branch, drives_arm, drives_block}
 use Rattle.lx_circuit.specs.Circuit.{Made}
 use Rattle.lx_circuit.specs.Reads.{names, reads, reads_branch, reads_arm, reads_block}
@@ -13,13 +13,13 @@ use Rattle.lx_fhdl.specs.Keeping.{block_depth}
 use Rattle.lx_fhdl.specs.Lowered.{is_done, is_for, are_for, ArePlain}
 use Rattle.lx_lowering.specs.Flat.{append}
 use Rattle.lx_lowering.specs.Lowering.{BlockKeeps, lists_from}
-use Rattle.lx_lowering.proofs.SplitFacts.{taken_append, drives_append, reads_append, keeps_append, depth_append}
+use Rattle.lx_lowering.proofs.Appends.{taken_append, drives_append, reads_append, keeps_append, depth_append}
 use Rattle.lx_lowering.proofs.FoldFacts.{for_drives}
 
 -- ---- a signal reads only where it is driven
 
 mutual
-  stmt_undriven : (x y : ℕ) (st : Stmt) → drives x st ≡ false → reads x y st ≡ false
+  stmt_undriven : (x : ℕ) (y : Place) (st : Stmt) → drives x st ≡ false → reads x y st ≡ false
   stmt_undriven x y (Assign t e) d = rw d refl
   stmt_undriven x y (If bs rest) d =
       let both = or_parts (drives_branch x bs) (drives_block x rest) d in
@@ -28,7 +28,7 @@ mutual
       let both = or_parts (drives_arm x arms) (drives_block x rest) d in
       rw (both.0, both.1, arm_undriven x y arms both.0, undriven x y rest both.1) (ap (λ b. b || false) (and-false (names y on)))
 
-  branch_undriven : (x y : ℕ) (bs : Branches) (driven read : Bool) → drives_branch x bs ≡ false → driven ≡ false → read ≡ false → reads_branch x y bs driven read ≡ false
+  branch_undriven : (x : ℕ) (y : Place) (bs : Branches) (driven read : Bool) → drives_branch x bs ≡ false → driven ≡ false → read ≡ false → reads_branch x y bs driven read ≡ false
   branch_undriven x y NoBranch driven read d e f = f
   branch_undriven x y (Branch c b more) driven read d e f =
       let both = or_parts (drives_block x b) (drives_branch x more) d in
@@ -36,14 +36,14 @@ mutual
       (and_right (names y c) (drives_block x b || (drives_branch x more || driven)) (or_from (drives_block x b) (drives_branch x more || driven) both.0 (or_from (drives_branch x more) driven both.1 e)))
       (or_from (reads_block x y b) (reads_branch x y more driven read) (undriven x y b both.0) (branch_undriven x y more driven read both.1 e f))
 
-  arm_undriven : (x y : ℕ) (arms : Arms) → drives_arm x arms ≡ false → reads_arm x y arms ≡ false
+  arm_undriven : (x : ℕ) (y : Place) (arms : Arms) → drives_arm x arms ≡ false → reads_arm x y arms ≡ false
   arm_undriven x y NoArm d = refl
   arm_undriven x y (Arm key b more) d =
       let both = or_parts (drives_block x b) (drives_arm x more) d in
       or_from (reads_block x y b) (reads_arm x y more) (undriven x y b both.0) (arm_undriven x y more both.1)
 
   -- a signal that statements don't drive reads nothing in them
-  pub undriven : (x y : ℕ) (b : Block) → drives_block x b ≡ false → reads_block x y b ≡ false
+  pub undriven : (x : ℕ) (y : Place) (b : Block) → drives_block x b ≡ false → reads_block x y b ≡ false
   undriven x y Done d = refl
   undriven x y (Then st ss) d =
       let both = or_parts (drives x st) (drives_block x ss) d in
@@ -93,7 +93,7 @@ from_drives f own k y (m ∷ ms) le lt =
     rw (later_idle f own (k + 1) y ms (omega arith)) (or-false (drives_block y (f k)) ∙ ap (λ (x : ℕ). drives_block y (f x)) same))
     (λ e. let ne = eqb-false k y e in rw (other_idle f own k y ne) (from_drives f own (k + 1) y ms (omega arith) (omega arith)))
 
-from_reads : (f : ℕ → Block) → EachFor f → (k y z : ℕ) (ms : List Made) → reads_block y z (lists_from f k ms) ≡ true → reads_block y z (f y) ≡ true
+from_reads : (f : ℕ → Block) → EachFor f → (k y : ℕ) (z : Place) (ms : List Made) → reads_block y z (lists_from f k ms) ≡ true → reads_block y z (f y) ≡ true
 from_reads f own k y z [] r = absurd (cc)
 from_reads f own k y z (m ∷ ms) r =
     let both : (reads_block y z (f k) || reads_block y z (lists_from f (k + 1) ms)) ≡ true = sym (reads_append y z (f k) (lists_from f (k + 1) ms)) ∙ r in
@@ -115,7 +115,7 @@ lists_drive f ms own y lt = from_drives f own 0 y ms (omega arith) (omega arith)
 pub lists_end : (f : ℕ → Block) (ms : List Made) → EachFor f → (y : ℕ) → length ms ≤ y → drives_block y (lists_from f 0 ms) ≡ false
 lists_end f ms own y le = past_idle f own 0 y ms (omega arith)
 
-pub lists_read : (f : ℕ → Block) (ms : List Made) → EachFor f → (y z : ℕ) → reads_block y z (lists_from f 0 ms) ≡ true → reads_block y z (f y) ≡ true
+pub lists_read : (f : ℕ → Block) (ms : List Made) → EachFor f → (y : ℕ) (z : Place) → reads_block y z (lists_from f 0 ms) ≡ true → reads_block y z (f y) ≡ true
 lists_read f ms own y z r = from_reads f own 0 y z ms r
 
 -- ---- each statement is for one signal

@@ -2,24 +2,25 @@
 use Rattle.std.proofs.Common.{◌≡◌, ℕ, ◌+◌, ◌-◌, ◌*◌, ◌^◌, ◌<◌, ◌≤◌, Bool, true, false, ◌&&◌, ◌||◌, List, ◌∷◌, refl, sym, ◌∙◌, ap, subst, arith, nat_lt, nat_le}
 use Rattle.std.specs.Prelude.{ℤ, pos, negsuc}
 use Rattle.std.proofs.Math.Nat.{pow-le-pow_right, div-eq_of_lt}
-use Rattle.std.proofs.lemmas.Bool.{cond_both, leb-true, or_parts, and_parts}
+use Rattle.std.proofs.lemmas.Bool.{cond_both, leb-true, or_parts, and_parts, and_from, or_from}
 use Rattle.lx_num.specs.declared.Shape.{Shape}
 use Rattle.lx_num.specs.Ints.{unsigned, floor_div, field_of, FitsBits, Fits, wrapped}
 use Rattle.lx_num.specs.Fewest.{magnitude_of}
 use Rattle.lx_num.proofs.Ranges.{pos_fits, unsigned_fits}
 use Rattle.lx_tables.specs.declared.operators.Op.{Op}
 use Rattle.lx_tables.specs.declared.operators.Op.TheVariants as op
-use Rattle.lx_circuit.specs.Terms.{Term, Terms, Constant, Signal, Unary, Binary, Mux, Cat, Replicate, Slice, Pick, NoTerm, MoreTerms}
+use Rattle.lx_circuit.specs.Places.{Place, Values, Word, is_word}
+use Rattle.lx_circuit.specs.Terms.{Term, Terms, Constant, Signal, Unary, Binary, Mux, Cat, Replicate, Slice, Pick, Fetch, NoTerm, MoreTerms}
 use Rattle.lx_circuit.specs.Shapes.{Shapes, shape_of, shapes_of, joined, pick_shape, bits_sum, unary_shape, binary_shape, too_wide, index_fault, binary_fault, replicate_fault, slice_fault, pick_fault}
-use Rattle.lx_circuit.specs.Values.{Values, value_of, values_of, unary_value, binary_value, mux_value, cat_pattern, replicate_value, pick_value, count_of}
+use Rattle.lx_circuit.specs.Values.{value_of, values_of, unary_value, binary_value, mux_value, cat_pattern, replicate_value, pick_value, count_of}
 use Rattle.lx_circuit.specs.Reads.{names, some_names}
-use Rattle.lx_circuit.proofs.Cases.{by_test, and_true}
+use Rattle.lx_circuit.proofs.Cases.{by_test}
 use Rattle.lx_fhdl.proofs.Fitting.{count_below, magnitude_fits}
 use Rattle.lx_fhdl.proofs.Operators.{unsigned_operand, index_unsigned}
 use Rattle.lx_lowering.specs.Terms.{never, is_item, pick_from, cut_amount, lower_binary, lower_term, lower_terms}
 use Rattle.lx_lowering.specs.Lowering.{TermKeeps, has_some}
-use Rattle.lx_lowering.proofs.TermFacts.{TermsKeep, AreSmall, AreFit, constant_own, unary_of, unary_own, binary_left, binary_right, binary_own, mux_cond, mux_so, mux_other, mux_own, first_keeps, rest_keeps, cat_some, cat_parts, cat_own, replicate_of, replicate_own, slice_of, slice_own, pick_some, pick_items, pick_index, pick_own, keeps_constant, keeps_unary, keeps_binary, keeps_mux, keeps_more, keeps_cat, keeps_replicate, keeps_slice, keeps_pick, term_small, term_fits}
-use Rattle.lx_lowering.proofs.Picks.{held, neither, pick_from_no_name, picked_shape, picked_value, picked_keeps}
+use Rattle.lx_lowering.proofs.TermFacts.{TermsKeep, AreSmall, AreFit, constant_own, unary_of, unary_own, binary_left, binary_right, binary_own, mux_cond, mux_so, mux_other, mux_own, first_keeps, rest_keeps, cat_some, cat_parts, cat_own, replicate_of, replicate_own, slice_of, slice_own, pick_some, pick_items, pick_index, pick_own, fetch_of, fetch_own, keeps_constant, keeps_unary, keeps_binary, keeps_mux, keeps_more, keeps_cat, keeps_replicate, keeps_slice, keeps_pick, keeps_fetch, term_small, term_fits}
+use Rattle.lx_lowering.proofs.Picks.{held, pick_from_no_name, picked_shape, picked_value, picked_keeps}
 
 -- ---- shifts by all bits and more
 
@@ -55,6 +56,7 @@ cut_cases P n (Cat parts) p f = p
 cut_cases P n (Replicate a count) p f = p
 cut_cases P n (Slice a low high) p f = p
 cut_cases P n (Pick items i) p f = p
+cut_cases P n (Fetch m width i) p f = p
 
 pub cut_shape : (s : Shapes) (n : ℕ) (t : Term) → shape_of s (cut_amount n t) ≡ shape_of s t
 cut_shape s n t = cut_cases (λ u. shape_of s u ≡ shape_of s t) n t refl (λ value a e l. sym (ap (shape_of s) e))
@@ -64,7 +66,7 @@ cut_keeps s n k t h =
     cut_cases (λ u. TermKeeps s n u) k t h
     (λ value a e l. keeps_constant s n (pos k) a (constant_own s n value a (subst (λ u. TermKeeps s n u) e h)))
 
-pub cut_no_name : (k y : ℕ) (t : Term) → names y t ≡ false → names y (cut_amount k t) ≡ false
+pub cut_no_name : (k : ℕ) (y : Place) (t : Term) → names y t ≡ false → names y (cut_amount k t) ≡ false
 cut_no_name k y t e = cut_cases (λ u. names y u ≡ false) k t e (λ value a q l. refl)
 
 -- the cut amount of a number that has as many bits
@@ -128,10 +130,10 @@ lower_binary_keeps s n o a b k =
     keeps_binary s n op.Shr a (cut_amount bits b) (binary_left s n o a b k) (cut_keeps s n bits b (binary_right s n o a b k))
     (ap (λ (c : Shape). index_fault c) (cut_shape s bits b) ∙ own))
 
-lower_binary_no_name : (s : Shapes) (y : ℕ) (o : Op) (a b : Term) → names y a ≡ false → names y b ≡ false → names y (lower_binary s o a b) ≡ false
+lower_binary_no_name : (s : Shapes) (y : Place) (o : Op) (a b : Term) → names y a ≡ false → names y b ≡ false → names y (lower_binary s o a b) ≡ false
 lower_binary_no_name s y o a b e f =
-    binary_cases (λ t. names y t ≡ false) s o a b (neither (names y a) (names y b) e f)
-    (λ _. neither (names y a) (names y (cut_amount (shape_of s a).bits b)) e (cut_no_name (shape_of s a).bits y b f))
+    binary_cases (λ t. names y t ≡ false) s o a b (or_from (names y a) (names y b) e f)
+    (λ _. or_from (names y a) (names y (cut_amount (shape_of s a).bits b)) e (cut_no_name (shape_of s a).bits y b f))
 
 -- ---- the shape
 
@@ -170,6 +172,7 @@ mutual
   lower_shape s n (Pick items i) k =
       picked_shape s (lower_terms s items) (lower_term s i) (has_some_lowered s items ∙ pick_some s n items i k)
       ∙ ap pick_shape (lower_shapes s n items (pick_items s n items i k))
+  lower_shape s n (Fetch m width i) k = refl
 
   pub lower_shapes : (s : Shapes) (n : ℕ) (ts : Terms) → TermsKeep s n ts → shapes_of s (lower_terms s ts) ≡ shapes_of s ts
   lower_shapes s n NoTerm k = refl
@@ -211,6 +214,7 @@ mutual
       let q = pick_index s n items i k in
       picked_keeps s n (lower_terms s items) (lower_term s i) h
       (lowered_pick s n items i k (lowers_keep s n items h p) (lower_keeps s n i h q) (lower_shapes s n items p) (lower_shape s n i q))
+  lower_keeps s n (Fetch m width i) h k = keeps_fetch s n m width (lower_term s i) (lower_keeps s n i h (fetch_of s n m width i k)) (fetch_own s n m width i k)
 
   pub lowers_keep : (s : Shapes) (n : ℕ) (ts : Terms) → AreSmall s n → TermsKeep s n ts → TermsKeep s n (lower_terms s ts)
   lowers_keep s n NoTerm h k = k
@@ -254,6 +258,7 @@ mutual
       picked_value s n v (lower_terms s items) (lower_term s i) h f whole
       ∙ ap (λ (zs : List ℤ). pick_value zs (value_of s v (lower_term s i))) (lower_values s n v items h f p)
       ∙ ap (pick_value (values_of s v items)) (lower_value s n v i h f q)
+  lower_value s n v (Fetch m width i) h f k = ap (λ (z : ℤ). wrapped (unsigned width) (v (Word m (count_of z)))) (lower_value s n v i h f (fetch_of s n m width i k))
 
   pub lower_values : (s : Shapes) (n : ℕ) (v : Values) (ts : Terms) → AreSmall s n → AreFit s n v → TermsKeep s n ts → values_of s v (lower_terms s ts) ≡ values_of s v ts
   lower_values s n v NoTerm h f k = refl
@@ -264,7 +269,7 @@ mutual
 -- ---- the signals that it names
 
 mutual
-  lower_no_name : (s : Shapes) (y : ℕ) (t : Term) → names y t ≡ false → names y (lower_term s t) ≡ false
+  lower_no_name : (s : Shapes) (y : Place) (t : Term) → names y t ≡ false → names y (lower_term s t) ≡ false
   lower_no_name s y (Constant value a) e = refl
   lower_no_name s y (Signal x) e = e
   lower_no_name s y (Unary o a) e = lower_no_name s y a e
@@ -274,23 +279,26 @@ mutual
   lower_no_name s y (Mux c a b) e =
       let p = or_parts (names y c) (names y a || names y b) e in
       let q = or_parts (names y a) (names y b) p.1 in
-      neither (names y (lower_term s c)) (names y (lower_term s a) || names y (lower_term s b)) (lower_no_name s y c p.0)
-      (neither (names y (lower_term s a)) (names y (lower_term s b)) (lower_no_name s y a q.0) (lower_no_name s y b q.1))
+      or_from (names y (lower_term s c)) (names y (lower_term s a) || names y (lower_term s b)) (lower_no_name s y c p.0)
+      (or_from (names y (lower_term s a)) (names y (lower_term s b)) (lower_no_name s y a q.0) (lower_no_name s y b q.1))
   lower_no_name s y (Cat parts) e = lowers_no_name s y parts e
   lower_no_name s y (Replicate a count) e = lower_no_name s y a e
   lower_no_name s y (Slice a low high) e = lower_no_name s y a e
   lower_no_name s y (Pick items i) e =
       let p = or_parts (some_names y items) (names y i) e in
       pick_from_no_name s y 0 (lower_terms s items) (lower_term s i) (lowers_no_name s y items p.0) (lower_no_name s y i p.1)
+  lower_no_name s y (Fetch m width i) e =
+      let p = or_parts (is_word m y) (names y i) e in
+      or_from (is_word m y) (names y (lower_term s i)) p.0 (lower_no_name s y i p.1)
 
-  lowers_no_name : (s : Shapes) (y : ℕ) (ts : Terms) → some_names y ts ≡ false → some_names y (lower_terms s ts) ≡ false
+  lowers_no_name : (s : Shapes) (y : Place) (ts : Terms) → some_names y ts ≡ false → some_names y (lower_terms s ts) ≡ false
   lowers_no_name s y NoTerm e = refl
   lowers_no_name s y (MoreTerms t ts) e =
       let p = or_parts (names y t) (some_names y ts) e in
-      neither (names y (lower_term s t)) (some_names y (lower_terms s ts)) (lower_no_name s y t p.0) (lowers_no_name s y ts p.1)
+      or_from (names y (lower_term s t)) (some_names y (lower_terms s ts)) (lower_no_name s y t p.0) (lowers_no_name s y ts p.1)
 
 -- a lowered term names only what the term names
-pub lower_names : (s : Shapes) (y : ℕ) (t : Term) → names y (lower_term s t) ≡ true → names y t ≡ true
+pub lower_names : (s : Shapes) (y : Place) (t : Term) → names y (lower_term s t) ≡ true → names y t ≡ true
 lower_names s y t e = by_test (names y t) (λ q. q) (λ q. absurd (let f = lower_no_name s y t q in cc))
 
 -- ---- no pick
@@ -306,6 +314,7 @@ abbrev mutual
   has_no_pick (Replicate a count) = has_no_pick a
   has_no_pick (Slice a low high) = has_no_pick a
   has_no_pick (Pick items i) = false
+  has_no_pick (Fetch m width i) = has_no_pick i
 
   pub have_no_pick : Terms → Bool
   have_no_pick NoTerm = true
@@ -317,7 +326,7 @@ cut_no_pick k t e = cut_cases (λ u. has_no_pick u ≡ true) k t e (λ value a q
 pub item_no_pick : (s : Shapes) (i : Term) (k : ℕ) → has_no_pick i ≡ true → has_no_pick (is_item s i k) ≡ true
 item_no_pick s i k e =
     cond_both (nat_lt k (2 ^ (shape_of s i).bits)) (Binary op.Eq i (Constant (pos k) (shape_of s i))) never (λ t. has_no_pick t ≡ true)
-    (λ _. and_true (has_no_pick i) true e refl)
+    (λ _. and_from (has_no_pick i) true e refl)
     (λ _. refl)
 
 pick_from_no_pick : (s : Shapes) (k : ℕ) (ts : Terms) (i : Term) → have_no_pick ts ≡ true → has_no_pick i ≡ true → has_no_pick (pick_from s k ts i) ≡ true
@@ -326,13 +335,13 @@ pick_from_no_pick s k (MoreTerms t NoTerm) i e f = (and_parts (has_no_pick t) tr
 pick_from_no_pick s k (MoreTerms t (MoreTerms u us)) i e f =
     let p = and_parts (has_no_pick t) (have_no_pick (MoreTerms u us)) e in
     let rest = pick_from s (k + 1) (MoreTerms u us) i in
-    and_true (has_no_pick (is_item s i k)) (has_no_pick t && has_no_pick rest) (item_no_pick s i k f)
-    (and_true (has_no_pick t) (has_no_pick rest) p.0 (pick_from_no_pick s (k + 1) (MoreTerms u us) i p.1 f))
+    and_from (has_no_pick (is_item s i k)) (has_no_pick t && has_no_pick rest) (item_no_pick s i k f)
+    (and_from (has_no_pick t) (has_no_pick rest) p.0 (pick_from_no_pick s (k + 1) (MoreTerms u us) i p.1 f))
 
 lower_binary_no_pick : (s : Shapes) (o : Op) (a b : Term) → has_no_pick a ≡ true → has_no_pick b ≡ true → has_no_pick (lower_binary s o a b) ≡ true
 lower_binary_no_pick s o a b e f =
-    binary_cases (λ t. has_no_pick t ≡ true) s o a b (and_true (has_no_pick a) (has_no_pick b) e f)
-    (λ _. and_true (has_no_pick a) (has_no_pick (cut_amount (shape_of s a).bits b)) e (cut_no_pick (shape_of s a).bits b f))
+    binary_cases (λ t. has_no_pick t ≡ true) s o a b (and_from (has_no_pick a) (has_no_pick b) e f)
+    (λ _. and_from (has_no_pick a) (has_no_pick (cut_amount (shape_of s a).bits b)) e (cut_no_pick (shape_of s a).bits b f))
 
 -- a lowered term has no pick
 mutual
@@ -342,13 +351,14 @@ mutual
   lower_no_pick s (Unary o a) = lower_no_pick s a
   lower_no_pick s (Binary o a b) = lower_binary_no_pick s o (lower_term s a) (lower_term s b) (lower_no_pick s a) (lower_no_pick s b)
   lower_no_pick s (Mux c a b) =
-      and_true (has_no_pick (lower_term s c)) (has_no_pick (lower_term s a) && has_no_pick (lower_term s b)) (lower_no_pick s c)
-      (and_true (has_no_pick (lower_term s a)) (has_no_pick (lower_term s b)) (lower_no_pick s a) (lower_no_pick s b))
+      and_from (has_no_pick (lower_term s c)) (has_no_pick (lower_term s a) && has_no_pick (lower_term s b)) (lower_no_pick s c)
+      (and_from (has_no_pick (lower_term s a)) (has_no_pick (lower_term s b)) (lower_no_pick s a) (lower_no_pick s b))
   lower_no_pick s (Cat parts) = lowers_no_pick s parts
   lower_no_pick s (Replicate a count) = lower_no_pick s a
   lower_no_pick s (Slice a low high) = lower_no_pick s a
   lower_no_pick s (Pick items i) = pick_from_no_pick s 0 (lower_terms s items) (lower_term s i) (lowers_no_pick s items) (lower_no_pick s i)
+  lower_no_pick s (Fetch m width i) = lower_no_pick s i
 
   pub lowers_no_pick : (s : Shapes) (ts : Terms) → have_no_pick (lower_terms s ts) ≡ true
   lowers_no_pick s NoTerm = refl
-  lowers_no_pick s (MoreTerms t ts) = and_true (has_no_pick (lower_term s t)) (have_no_pick (lower_terms s ts)) (lower_no_pick s t) (lowers_no_pick s ts)
+  lowers_no_pick s (MoreTerms t ts) = and_from (has_no_pick (lower_term s t)) (have_no_pick (lower_terms s ts)) (lower_no_pick s t) (lowers_no_pick s ts)

@@ -3,10 +3,11 @@ use Rattle.std.proofs.Common.{◌≡◌, ℕ, ℤ, zero, suc, ◌%◌, ◌^◌, 
 use Rattle.std.specs.Prelude.{slice_index_or, nat_lt}
 use Rattle.std.proofs.lemmas.Bool.{or_from, ltb-true, ltb-false}
 use Rattle.lx_num.specs.Ints.{Fits, modulo, read_bits}
+use Rattle.lx_circuit.specs.Places.{Place, Values, At}
 use Rattle.lx_circuit.specs.Shapes.{Shapes}
-use Rattle.lx_circuit.specs.Values.{Values}
 use Rattle.lx_circuit.specs.Statements.{Target, Targets, Whole, Part, CatTarget, PickTarget, NoTarget, MoreTargets, Stmt, Assign, If, Case, Branches, NoBranch, Branch, Arms, NoArm, Arm, Block, Done, Then, Piece, taken_block, after_pieces, result, is_target, some_target, drives, drives_branch, drives_arm, drives_block}
-use Rattle.lx_circuit.specs.Circuit.{Circuit, Domain, shapes, made, no_domain, domain_at, KeepsShapes}
+use Rattle.lx_circuit.specs.Circuit.{Circuit, Domain, shapes, made, no_domain, domain_at}
+use Rattle.lx_circuit.specs.Fitting.{KeepsShapes}
 use Rattle.lx_circuit.specs.Reads.{reads_block}
 use Rattle.lx_circuit.proofs.Cases.{by_test}
 use Rattle.lx_circuit.proofs.Frames.{block_leaves}
@@ -16,18 +17,18 @@ use Rattle.lx_fhdl.specs.Lowered.{ArePlain}
 use Rattle.lx_lowering.specs.Flat.{flat_block}
 use Rattle.lx_lowering.specs.Split.{split_block}
 use Rattle.lx_lowering.specs.Constants.{folded}
-use Rattle.lx_lowering.specs.Lowering.{TargetKeeps, TargetsKeep, StmtKeeps, BranchesKeep, ArmsKeep, BlockKeeps, CanBeLowered, lowered_comb, lowered_sync, lowered_domain, lowered, Lowers}
+use Rattle.lx_lowering.specs.Lowering.{TargetKeeps, TargetsKeep, StmtKeeps, BranchesKeep, ArmsKeep, BlockKeeps, CanBeLowered, lowered_comb, lowered_sync, lowered_domain, lowered, SameParts, Lowers}
 use Rattle.lx_lowering.proofs.SplitFacts.{is_flat_block, split_pieces, split_for, split_drives, split_reads, split_keeps, split_depth}
 use Rattle.lx_lowering.proofs.Folded.{lists_folded}
 use Rattle.lx_lowering.proofs.FoldFacts.{folded_result, folded_for, folded_drives, folded_reads, folded_keeps, folded_depth}
 use Rattle.lx_lowering.proofs.ListFacts.{EachFor, lists_pieces, lists_drive, lists_end, lists_read, lists_plain, lists_keep, lists_depth}
-use Rattle.lx_lowering.proofs.SameRuns.{AllFit, IsAlike, SameDomains, same_resets, same_roles, same_runs, has_order}
+use Rattle.lx_lowering.proofs.SameRuns.{AllFit, IsAlike, SameDomains, same_domain, same_roles, same_runs, order_beside}
 
 -- What is known of flat statements, over n signals.
 pub record FlatLaws (s : Shapes) (n : ℕ) : Type 0 where
-  pub taken : (v : Values) → ((x : ℕ) → x < n → Fits (s x) (v x)) → (b : Block) → BlockKeeps s n b → taken_block s v (flat_block s b) ≡ taken_block s v b
+  pub taken : (v : Values) → ((x : ℕ) → x < n → Fits (s x) (v (At x))) → (b : Block) → BlockKeeps s n b → taken_block s v (flat_block s b) ≡ taken_block s v b
   pub drives : (b : Block) → BlockKeeps s n b → (x : ℕ) → drives_block x (flat_block s b) ≡ drives_block x b
-  pub reads : (b : Block) → BlockKeeps s n b → (x y : ℕ) → reads_block x y (flat_block s b) ≡ true → reads_block x y b ≡ true
+  pub reads : (b : Block) → BlockKeeps s n b → (x : ℕ) (y : Place) → reads_block x y (flat_block s b) ≡ true → reads_block x y b ≡ true
   pub flat : (b : Block) → BlockKeeps s n b → is_flat_block (flat_block s b) ≡ true
 
 -- ---- statements drive no signal past the end
@@ -132,7 +133,7 @@ comb_result c made_so l v f k x =
     (λ le. same_read s x start (taken_block s v c.comb) (taken_block s v (lowered_comb c)) (λ p. block_leaves s v x c.comb (drives_past s (length c.signals) x c.comb k le) p
     ∙ sym (block_leaves s v x (lowered_comb c) (lists_end (comb_of c) c.signals (comb_own c l k) x le) p)))
 
-comb_reads : (c : Circuit) → Laws c → Keeps c c.comb → (x y : ℕ) → reads_block x y (lowered_comb c) ≡ true → reads_block x y c.comb ≡ true
+comb_reads : (c : Circuit) → Laws c → Keeps c c.comb → (x : ℕ) (y : Place) → reads_block x y (lowered_comb c) ≡ true → reads_block x y c.comb ≡ true
 comb_reads c l k x y r =
     let own = lists_read (comb_of c) c.signals (comb_own c l k) x y r in
     let split = folded_reads (shapes c) x x y (made c x).reset (sync_of c c.comb x) own in
@@ -164,22 +165,39 @@ unfolding lowered
 alike c k l =
     let domains = same_domains c l c.domains k.domains in
     record {
-      roles = same_roles c (lowered c) refl (comb_drives c l k.comb) domains;
-      resets = same_resets c (lowered c) domains;
+      roles = same_roles c (lowered_comb c) (map (lowered_domain c) c.domains) (comb_drives c l k.comb) domains;
+      resets = λ d. (same_domain c (lowered c) domains d).reset;
       comb = λ v f x r. comb_result c k.signals l v f k.comb x;
-      sync = λ v f x d r. same_read (shapes c) x (v x) (taken_block (shapes c) v (domain_at c d).stmts) (taken_block (shapes c) v (domain_at (lowered c) d).stmts) (domain_pieces c l v f c.domains k.domains d x);
+      sync = λ v f x d r. same_read (shapes c) x (v (At x)) (taken_block (shapes c) v (domain_at c d).stmts) (taken_block (shapes c) v (domain_at (lowered c) d).stmts) (domain_pieces c l v f c.domains k.domains d x);
     }
+
+same_names : (c : Circuit) (ds : List Domain) → map (λ (d : Domain). d.name) (map (lowered_domain c) ds) ≡ map (λ (d : Domain). d.name) ds
+same_names c [] = refl
+same_names c (d ∷ ds) = ap (λ ns. d.name ∷ ns) (same_names c ds)
+
+same_resets : (c : Circuit) (ds : List Domain) → map (λ (d : Domain). d.reset) (map (lowered_domain c) ds) ≡ map (λ (d : Domain). d.reset) ds
+same_resets c [] = refl
+same_resets c (d ∷ ds) = ap (λ rs. d.reset ∷ rs) (same_resets c ds)
+
+same_parts : (c : Circuit) → SameParts c (lowered c)
+unfolding lowered
+same_parts c = record { signals = refl; memories = refl; ports = refl; ios = refl; names = same_names c c.domains; resets = same_resets c c.domains }
 
 -- where flat statements are as they should be, the lowered circuit has the same runs, plain statements, constants where it reads nothing, and an order
 pub lowers : (c : Circuit) → CanBeLowered c → FlatLaws (shapes c) (length c.signals) → Lowers c (lowered c)
 unfolding lowered
 lowers c k l = record {
-  runs = same_runs c (lowered c) refl k.signals (alike c k l);
+  runs = same_runs c (lowered_comb c) (map (lowered_domain c) c.domains) c.ios k.signals (alike c k l);
+  parts = same_parts c;
   roles = (alike c k l).roles;
+  drivers = record {
+    comb = λ x. sym (comb_drives c l k.comb x);
+    sync = λ x d. sym ((same_domain c (lowered c) (same_domains c l c.domains k.domains) d).drives x);
+  };
   comb = lists_plain (comb_of c) c.signals (comb_own c l k.comb);
   sync = domains_plain c l c.domains k.domains;
   folded = record { each = λ x. lists_folded (shapes c) (λ y. (made c y).reset) (sync_of c c.comb) c.signals (comb_own c l k.comb) x };
-  order = λ o. has_order c (lowered c) o (comb_reads c l k.comb);
+  order = λ o. order_beside c (lowered_comb c) (map (lowered_domain c) c.domains) c.ios o (alike c k l).roles (comb_reads c l k.comb);
 }
 
 -- ---- the lists keep what flat statements keep, and nest no deeper

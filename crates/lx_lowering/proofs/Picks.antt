@@ -2,20 +2,21 @@
 use Rattle.std.proofs.Common.{◌≡◌, ℕ, ◌+◌, ◌-◌, ◌^◌, ◌<◌, ◌≤◌, Bool, true, false, ◌||◌, cond, List, [], ◌∷◌, refl, sym, ◌∙◌, ap, subst, arith, suc, zero, nat_lt, nat_eq, max}
 use Rattle.std.specs.Prelude.{ℤ, pos, negsuc, Option, Some, None, min}
 use Rattle.std.specs.Ordering.{int_eq}
-use Rattle.std.proofs.lemmas.Bool.{cond_both, ltb-true, ltb-false, le-leb, ne_eqb, eqb-true, eqb-false, or_parts}
+use Rattle.std.proofs.lemmas.Bool.{cond_both, ltb-true, ltb-false, le-leb, ne_eqb, eqb-true, eqb-false, or_parts, or_right, or_from}
 use Rattle.std.proofs.Math.Bool.{or-false}
 use Rattle.std.proofs.lemmas.Bool.Decides.{same_from_decides, Decides-eqb, Decides-int_eq, Decides-like}
 use Rattle.lx_num.specs.declared.Shape.{Shape}
 use Rattle.lx_num.specs.Ints.{FitsBits, shape, unsigned, wrapped}
 use Rattle.lx_num.proofs.Ranges.{fits_pos, unsigned_fits, wrap_bits_same}
 use Rattle.lx_tables.specs.declared.operators.Op.TheVariants as op
+use Rattle.lx_circuit.specs.Places.{Place, Values}
 use Rattle.lx_circuit.specs.declared.WidthFault.{WidthFault}
 use Rattle.lx_circuit.specs.declared.WidthFault.TheVariants.{TooWide, BadWidth}
 use Rattle.lx_circuit.specs.Terms.{Term, Terms, Constant, Binary, Pick, NoTerm, MoreTerms}
 use Rattle.lx_circuit.specs.Shapes.{Shapes, shape_of, shapes_of, joined, joined_bits, joined_fault, pick_shape, some_signed, widest, extra, too_wide, constant_fault, or_else}
-use Rattle.lx_circuit.specs.Values.{Values, value_of, values_of, flag, count_of, mux_value, nth_or_last}
+use Rattle.lx_circuit.specs.Values.{value_of, values_of, flag, count_of, mux_value, nth_or_last}
 use Rattle.lx_circuit.specs.Reads.{names, some_names}
-use Rattle.lx_circuit.proofs.Cases.{by_test, or_true_right}
+use Rattle.lx_circuit.proofs.Cases.{by_test}
 use Rattle.lx_fhdl.specs.Nodes.{IsSmall}
 use Rattle.lx_fhdl.proofs.Fitting.{count_below}
 use Rattle.lx_fhdl.proofs.Operators.{unsigned_operand}
@@ -80,7 +81,7 @@ item_keeps s n i k h keeps =
     (λ _. keeps_binary s n op.Eq i (Constant (pos k) a) keeps (keeps_constant s n (pos k) a (small_constant a small)) (compared a small))
     (λ _. keeps_constant s n (pos 0) (unsigned 1) refl)
 
-pub item_no_name : (s : Shapes) (y : ℕ) (i : Term) (k : ℕ) → names y i ≡ false → names y (is_item s i k) ≡ false
+pub item_no_name : (s : Shapes) (y : Place) (i : Term) (k : ℕ) → names y i ≡ false → names y (is_item s i k) ≡ false
 item_no_name s y i k e =
     cond_both (nat_lt k (2 ^ (shape_of s i).bits)) (Binary op.Eq i (Constant (pos k) (shape_of s i))) never (λ t. names y t ≡ false)
     (λ _. or-false (names y i) ∙ e)
@@ -112,7 +113,7 @@ pub joined_pick : (a b : Shape) (bs : List Shape) → joined a (pick_shape (b �
 joined_pick a b bs =
     let some = some_signed (b ∷ bs) in
     let all = a.signed || some in
-    ap (λ (w : ℕ). shape (max (joined_bits all a) w) all) (widened some all b bs refl (λ e. or_true_right a.signed some e))
+    ap (λ (w : ℕ). shape (max (joined_bits all a) w) all) (widened some all b bs refl (λ e. or_right a.signed some e))
 
 lone : (n : ℕ) (s : Bool) → shape n s ≡ pick_shape (shape n s ∷ [])
 lone n true = ap (λ (k : ℕ). shape k true) (omega arith)
@@ -123,7 +124,7 @@ pub others_bits : (a b : Shape) (bs : List Shape) → (pick_shape (b ∷ bs)).bi
 others_bits a b bs =
     let some = some_signed (b ∷ bs) in
     let all = a.signed || some in
-    omega (arith, widened some all b bs refl (λ e. or_true_right a.signed some e))
+    omega (arith, widened some all b bs refl (λ e. or_right a.signed some e))
 
 -- the shape of the choices is that of the pick
 pub pick_from_shape : (s : Shapes) (k : ℕ) (t : Term) (ts : Terms) (i : Term) → shape_of s (pick_from s k (MoreTerms t ts) i) ≡ pick_shape (shapes_of s (MoreTerms t ts))
@@ -169,17 +170,14 @@ pick_from_keeps s n k t (MoreTerms u us) i h keeps m l =
     (pick_from_keeps s n (k + 1) u us i h keeps (rest_keeps s n t (MoreTerms u us) m) (omega (arith, others_bits a (shape_of s u) (shapes_of s us))))
     (ap (λ (b : Shape). too_wide b.bits) whole ∙ narrow (pick_shape (shapes_of s (MoreTerms t (MoreTerms u us)))).bits l)
 
-pub neither : (a b : Bool) → a ≡ false → b ≡ false → (a || b) ≡ false
-neither a b e f = ap (λ (c : Bool). c || b) e ∙ f
-
 -- the choices name no signal that the items and the index don't
-pub pick_from_no_name : (s : Shapes) (y k : ℕ) (ts : Terms) (i : Term) → some_names y ts ≡ false → names y i ≡ false → names y (pick_from s k ts i) ≡ false
+pub pick_from_no_name : (s : Shapes) (y : Place) (k : ℕ) (ts : Terms) (i : Term) → some_names y ts ≡ false → names y i ≡ false → names y (pick_from s k ts i) ≡ false
 pick_from_no_name s y k NoTerm i e f = refl
 pick_from_no_name s y k (MoreTerms t NoTerm) i e f = (or_parts (names y t) false e).0
 pick_from_no_name s y k (MoreTerms t (MoreTerms u us)) i e f =
     let p = or_parts (names y t) (some_names y (MoreTerms u us)) e in
-    neither (names y (is_item s i k)) (names y t || names y (pick_from s (k + 1) (MoreTerms u us) i)) (item_no_name s y i k f)
-    (neither (names y t) (names y (pick_from s (k + 1) (MoreTerms u us) i)) p.0 (pick_from_no_name s y (k + 1) (MoreTerms u us) i p.1 f))
+    or_from (names y (is_item s i k)) (names y t || names y (pick_from s (k + 1) (MoreTerms u us) i)) (item_no_name s y i k f)
+    (or_from (names y t) (names y (pick_from s (k + 1) (MoreTerms u us) i)) p.0 (pick_from_no_name s y (k + 1) (MoreTerms u us) i p.1 f))
 
 -- ---- a pick that keeps, and its choices
 

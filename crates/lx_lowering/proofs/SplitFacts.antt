@@ -1,20 +1,22 @@
 -- The statements of one signal among flat ones: they take its pieces, and drive, read and keep what they did.
-use Rattle.std.proofs.Common.{◌≡◌, ℕ, ◌+◌, ◌≤◌, Bool, true, false, ◌&&◌, ◌||◌, List, [], ◌++◌, max, not, nat_eq, cond, refl, sym, ◌∙◌, ap, arith, eqb-true, eq-eqb, append_assoc}
-use Rattle.std.proofs.Math.Bool.{or-false, and-true, and-false, or_assoc, and-or_distrib_left}
+use Rattle.std.proofs.Common.{◌≡◌, ℕ, ◌+◌, ◌≤◌, Bool, true, false, ◌&&◌, ◌||◌, [], max, not, nat_eq, cond, refl, sym, ◌∙◌, ap, arith, eqb-true, eq-eqb}
+use Rattle.std.proofs.Math.Bool.{or-false, and-true, and-false, and-or_distrib_left}
 use Rattle.std.proofs.lemmas.Bool.{and_parts, and_from, cond_both}
 use Rattle.std.proofs.lemmas.List.{append-nil}
+use Rattle.lx_circuit.specs.Places.{Place, Values}
 use Rattle.lx_circuit.specs.Terms.{Term}
 use Rattle.lx_circuit.specs.Shapes.{Shapes}
-use Rattle.lx_circuit.specs.Values.{Values, value_of, is_zero}
-use Rattle.lx_circuit.specs.Statements.{Target, Whole, Part, CatTarget, PickTarget, Stmt, Assign, If, Case, Branches, NoBranch, Branch, Block, Done, Then, Piece, pieces, taken, taken_block, after_pieces, is_target, drives, drives_block}
+use Rattle.lx_circuit.specs.Values.{value_of, is_zero}
+use Rattle.lx_circuit.specs.Statements.{Target, Whole, Part, CatTarget, PickTarget, Stmt, Assign, If, Case, Branches, NoBranch, Branch, Block, Done, Then, pieces, taken, taken_block, after_pieces, is_target, drives, drives_block}
 use Rattle.lx_circuit.specs.Reads.{names, target_names, reads, reads_block}
-use Rattle.lx_circuit.proofs.Cases.{by_test, after_append, same_choice}
-use Rattle.lx_circuit.proofs.Frames.{target_leaves}
+use Rattle.lx_circuit.proofs.Cases.{by_test, same_choice}
+use Rattle.lx_circuit.proofs.Frames.{target_leaves, then_same}
 use Rattle.lx_fhdl.specs.Keeping.{target_depth, stmt_depth, block_depth}
 use Rattle.lx_fhdl.specs.Lowered.{is_plain_target, is_done, is_lone, is_for, are_for}
 use Rattle.lx_lowering.specs.Flat.{append, one}
 use Rattle.lx_lowering.specs.Split.{lone_if, split, split_block}
 use Rattle.lx_lowering.specs.Lowering.{TermKeeps, StmtKeeps, BlockKeeps}
+use Rattle.lx_lowering.proofs.Appends.{taken_append, drives_append, reads_append, keeps_append, depth_append}
 
 -- ---- flat statements
 
@@ -48,15 +50,6 @@ both_flat c b rest e =
     ((and_parts (is_flat_block b) true q.0).0, q.1)
 
 -- ---- the pieces
-
-pub taken_append : (s : Shapes) (v : Values) (a b : Block) → taken_block s v (append a b) ≡ taken_block s v a ++ taken_block s v b
-taken_append s v Done b = refl
-taken_append s v (Then st ss) b = ap (λ qs. taken s v st ++ qs) (taken_append s v ss b) ∙ sym (append_assoc (taken s v st) (taken_block s v ss) (taken_block s v b))
-
--- one after the other
-then_same : (x : ℕ) (as_ bs cs ds : List Piece) → ((p : ℕ) → after_pieces x p as_ ≡ after_pieces x p cs) → ((p : ℕ) → after_pieces x p bs ≡ after_pieces x p ds) → (p : ℕ) → after_pieces x p (as_ ++ bs) ≡ after_pieces x p (cs ++ ds)
-then_same x as_ bs cs ds h k p =
-    after_append x p as_ bs ∙ (k (after_pieces x p as_) ∙ (ap (λ q. after_pieces x q ds) (h p) ∙ sym (after_append x p cs ds)))
 
 either_same : {A : Type 0} (b : Bool) (x : A) → cond b x x ≡ x
 either_same true x = refl
@@ -128,10 +121,6 @@ mutual
 
 -- ---- what they drive
 
-pub drives_append : (y : ℕ) (a b : Block) → drives_block y (append a b) ≡ (drives_block y a || drives_block y b)
-drives_append y Done b = refl
-drives_append y (Then st ss) b = ap (λ z. drives y st || z) (drives_append y ss b) ∙ sym (or_assoc (drives y st) (drives_block y ss) (drives_block y b))
-
 lone_drives : (y : ℕ) (c : Term) (b rest : Block) → drives_block y (lone_if c b rest) ≡ (drives_block y b || drives_block y rest)
 lone_drives y c Done Done = refl
 lone_drives y c Done (Then t ts) = or-false (drives_block y (Then t ts))
@@ -167,11 +156,7 @@ mutual
 
 -- ---- what they read
 
-pub reads_append : (x y : ℕ) (a b : Block) → reads_block x y (append a b) ≡ (reads_block x y a || reads_block x y b)
-reads_append x y Done b = refl
-reads_append x y (Then st ss) b = ap (λ z. reads x y st || z) (reads_append x y ss b) ∙ sym (or_assoc (reads x y st) (reads_block x y ss) (reads_block x y b))
-
-lone_reads : (x y : ℕ) (c : Term) (b rest : Block) → reads_block x y (lone_if c b rest) ≡ ((names y c && (drives_block x b || drives_block x rest)) || (reads_block x y b || reads_block x y rest))
+lone_reads : (x : ℕ) (y : Place) (c : Term) (b rest : Block) → reads_block x y (lone_if c b rest) ≡ ((names y c && (drives_block x b || drives_block x rest)) || (reads_block x y b || reads_block x y rest))
 lone_reads x y c Done Done = rw (and-false (names y c)) refl
 lone_reads x y c Done (Then t ts) = or-false ((names y c && drives_block x (Then t ts)) || reads_block x y (Then t ts))
 lone_reads x y c (Then t ts) rest = or-false ((names y c && (drives_block x (Then t ts) || drives_block x rest)) || (reads_block x y (Then t ts) || reads_block x y rest))
@@ -180,7 +165,7 @@ own_drives : (x : ℕ) (b : Block) → is_flat_block b ≡ true → drives_block
 own_drives x b f = split_drives x x b f ∙ ap (λ z. z && drives_block x b) (eq-eqb x x refl)
 
 mutual
-  stmt_same_reads : (x y : ℕ) (st : Stmt) → is_flat st ≡ true → reads_block x y (split x st) ≡ reads x y st
+  stmt_same_reads : (x : ℕ) (y : Place) (st : Stmt) → is_flat st ≡ true → reads_block x y (split x st) ≡ reads x y st
   stmt_same_reads x y (Assign t e) f =
       by_test (is_target x t)
       (λ d. rw d (rw d (or-false (names y e || target_names y t))))
@@ -193,21 +178,17 @@ mutual
       ∙ (rw (own_drives x b both.0, own_drives x rest both.1, same_reads x y b both.0, same_reads x y rest both.1) refl)
   stmt_same_reads x y (Case on arms rest) f = absurd (cc)
 
-  pub same_reads : (x y : ℕ) (b : Block) → is_flat_block b ≡ true → reads_block x y (split_block x b) ≡ reads_block x y b
+  pub same_reads : (x : ℕ) (y : Place) (b : Block) → is_flat_block b ≡ true → reads_block x y (split_block x b) ≡ reads_block x y b
   same_reads x y Done f = refl
   same_reads x y (Then st ss) f =
       let both = and_parts (is_flat st) (is_flat_block ss) f in
       reads_append x y (split x st) (split_block x ss) ∙ (rw (stmt_same_reads x y st both.0, same_reads x y ss both.1) refl)
 
 -- what a signal reads in its own statements it reads in all
-pub split_reads : (x y : ℕ) (b : Block) → is_flat_block b ≡ true → reads_block x y (split_block x b) ≡ true → reads_block x y b ≡ true
+pub split_reads : (x : ℕ) (y : Place) (b : Block) → is_flat_block b ≡ true → reads_block x y (split_block x b) ≡ true → reads_block x y b ≡ true
 split_reads x y b f r = sym (same_reads x y b f) ∙ r
 
 -- ---- what they keep
-
-pub keeps_append : (s : Shapes) (n : ℕ) (a b : Block) → BlockKeeps s n a → BlockKeeps s n b → BlockKeeps s n (append a b)
-keeps_append s n Done b k l = l
-keeps_append s n (Then st ss) b k l = (k.0, keeps_append s n ss b k.1 l)
 
 lone_keeps : (s : Shapes) (n : ℕ) (c : Term) (b rest : Block) → TermKeeps s n c → BlockKeeps s n b → BlockKeeps s n rest → BlockKeeps s n (lone_if c b rest)
 lone_keeps s n c Done Done k l m = tt
@@ -232,10 +213,6 @@ mutual
       keeps_append s n (split x st) (split_block x ss) (stmt_keeps s n x st k.0 both.0) (split_keeps s n x ss k.1 both.1)
 
 -- ---- how deep they nest
-
-pub depth_append : (a b : Block) → block_depth (append a b) ≡ max (block_depth a) (block_depth b)
-depth_append Done b = omega arith
-depth_append (Then st ss) b = omega (arith, depth_append ss b)
 
 lone_depth : (c : Term) (b rest : Block) → block_depth (lone_if c b rest) ≤ 1 + max (block_depth b) (block_depth rest)
 lone_depth c Done Done = omega arith

@@ -7,13 +7,14 @@ use Rattle.std.proofs.lemmas.Bool.{cases_lt, cases_eq, lt-ltb, le-ltb, eq-eqb, n
 use Rattle.std.proofs.Math.Nat.{mod-eq_of_lt, div-eq_of_lt, pow-le-pow_right}
 use Rattle.std.proofs.lemmas.List.{append-nil}
 use Rattle.lx_num.specs.declared.Shape.{Shape}
-use Rattle.lx_num.specs.Ints.{wrapped, floor_div, Fits, FitsBits}
-use Rattle.lx_num.proofs.Ranges.{pos_fits, wrap_bits_same, fits_pos, fits_magnitude}
+use Rattle.lx_num.specs.Ints.{floor_div, Fits, FitsBits}
+use Rattle.lx_num.proofs.Ranges.{pos_fits, fits_magnitude}
 use Rattle.lx_num.proofs.Ints.{halves}
 use Rattle.lx_tables.specs.declared.operators.Op.TheVariants as op
+use Rattle.lx_circuit.specs.Places.{Place, Values, At}
 use Rattle.lx_circuit.specs.Terms.{Term, Constant, Binary}
 use Rattle.lx_circuit.specs.Shapes.{Shapes, shape_of, or_else}
-use Rattle.lx_circuit.specs.Values.{Values, value_of, is_zero, flag, count_of, nth_or_last}
+use Rattle.lx_circuit.specs.Values.{value_of, is_zero, flag, count_of, nth_or_last}
 use Rattle.lx_circuit.specs.Statements.{Target, Targets, Whole, Part, CatTarget, PickTarget, NoTarget, MoreTargets, Block, Done, Then, pieces, parts_pieces, items_pieces, taken_block, target_bits}
 use Rattle.lx_circuit.specs.Reads.{names}
 use Rattle.lx_fhdl.specs.Nodes.{IsSmall}
@@ -21,6 +22,7 @@ use Rattle.lx_lowering.specs.Terms.{never, is_item, lower_term}
 use Rattle.lx_lowering.specs.Flat.{when, some_when, without_low, is_last, item_assigns, assigns, parts_assigns, items_assigns}
 use Rattle.lx_lowering.specs.Lowering.{TermKeeps, TargetKeeps, TargetsKeep}
 use Rattle.lx_lowering.proofs.Appends.{both_taken}
+use Rattle.lx_lowering.proofs.Picks.{held}
 
 -- what lowering keeps of a term, its value aside
 pub record ShapeLaws (s : Shapes) (n : ℕ) : Type 0 where
@@ -28,18 +30,18 @@ pub record ShapeLaws (s : Shapes) (n : ℕ) : Type 0 where
   pub term_small : (t : Term) → TermKeeps s n t → IsSmall (shape_of s t)
   pub lower_shape : (t : Term) → TermKeeps s n t → shape_of s (lower_term s t) ≡ shape_of s t
   pub lower_keeps : (t : Term) → TermKeeps s n t → TermKeeps s n (lower_term s t)
-  pub lower_names : (y : ℕ) (t : Term) → TermKeeps s n t → names y (lower_term s t) ≡ true → names y t ≡ true
+  pub lower_names : (y : Place) (t : Term) → TermKeeps s n t → names y (lower_term s t) ≡ true → names y t ≡ true
 
 -- and its value
 pub record TermLaws (s : Shapes) (n : ℕ) (v : Values) : Type 0 where
   pub small : (x : ℕ) → x < n → IsSmall (s x)
-  pub fits : (x : ℕ) → x < n → Fits (s x) (v x)
+  pub fits : (x : ℕ) → x < n → Fits (s x) (v (At x))
   pub term_small : (t : Term) → TermKeeps s n t → IsSmall (shape_of s t)
   pub term_fits : (t : Term) → TermKeeps s n t → Fits (shape_of s t) (value_of s v t)
   pub lower_shape : (t : Term) → TermKeeps s n t → shape_of s (lower_term s t) ≡ shape_of s t
   pub lower_value : (t : Term) → TermKeeps s n t → value_of s v (lower_term s t) ≡ value_of s v t
   pub lower_keeps : (t : Term) → TermKeeps s n t → TermKeeps s n (lower_term s t)
-  pub lower_names : (y : ℕ) (t : Term) → TermKeeps s n t → names y (lower_term s t) ≡ true → names y t ≡ true
+  pub lower_names : (y : Place) (t : Term) → TermKeeps s n t → names y (lower_term s t) ≡ true → names y t ≡ true
 
 pub shape_laws : (s : Shapes) (n : ℕ) (v : Values) → TermLaws s n v → ShapeLaws s n
 shape_laws s n v laws = record { small = laws.small; term_small = laws.term_small; lower_shape = laws.lower_shape; lower_keeps = laws.lower_keeps; lower_names = laws.lower_names }
@@ -66,10 +68,6 @@ some_when_taken s v c Done false e = refl
 some_when_taken s v c (Then x xs) t e = when_taken s v c (Then x xs) t e
 
 -- ---- the number of an index
-
--- a number below 2 to the bits, as a constant of the shape
-pub constant_value : (a : Shape) (k : ℕ) → 1 ≤ a.bits → a.signed ≡ false → k < 2 ^ a.bits → wrapped a (pos k) ≡ pos k
-constant_value a k h e p = wrap_bits_same a.bits a.signed (pos k) h (let P : Bool → Type 0 = λ b. FitsBits a.bits b (pos k) in subst P (sym e) (fits_pos a.bits k p))
 
 -- an index is its count
 pub index_is : (a : Shape) (z : ℤ) → a.signed ≡ false → Fits a z → (z ≡ pos (count_of z)) × (count_of z < 2 ^ a.bits)
@@ -137,7 +135,7 @@ item_value s v i k x =
     elim (cases_lt k (2 ^ a.bits)) [
       | inl p ↦
           ap (λ b. value_of s v (cond b (Binary op.Eq i (Constant (pos k) a)) never)) (lt-ltb k (2 ^ a.bits) p)
-          ∙ ap (λ y. flag (int_eq (value_of s v i) y)) (constant_value a k x.small.some x.plain p)
+          ∙ ap (λ y. flag (int_eq (value_of s v i) y)) (held a k x.small.some x.plain p)
           ∙ ap (λ y. flag (int_eq y (pos k))) z.0
           ∙ ap flag (int_eq_pos (count_at s v i) k)
       | inr p ↦
@@ -152,7 +150,7 @@ last_value s v i k x =
     elim (cases_lt k (2 ^ a.bits)) [
       | inl p ↦
           ap (λ b. value_of s v (cond b (Binary op.Ge i (Constant (pos k) a)) never)) (lt-ltb k (2 ^ a.bits) p)
-          ∙ ap (λ y. flag (not (int_lt (value_of s v i) y))) (constant_value a k x.small.some x.plain p)
+          ∙ ap (λ y. flag (not (int_lt (value_of s v i) y))) (held a k x.small.some x.plain p)
           ∙ ap (λ y. flag (not (int_lt y (pos k)))) z.0
       | inr p ↦
           ap (λ b. value_of s v (cond b (Binary op.Ge i (Constant (pos k) a)) never)) (le-ltb k (2 ^ a.bits) p)

@@ -1,18 +1,18 @@
 -- Terms that keep to n signals: their parts keep too, their shapes are small, and their values fit.
 use Rattle.std.proofs.Common.{◌≡◌, ℕ, ◌-◌, ◌*◌, ◌^◌, ◌<◌, ◌≤◌, Bool, true, false, ◌&&◌, List, ◌∷◌, refl, ◌∙◌, ap, arith, suc, zero}
 use Rattle.std.specs.Prelude.{ℤ, pos, Option, None}
-use Rattle.std.proofs.lemmas.Bool.{ltb-true, lt-ltb, and_parts}
+use Rattle.std.proofs.lemmas.Bool.{ltb-true, lt-ltb, and_parts, and_from, or_left, or_right}
 use Rattle.std.proofs.lemmas.Nat.{pow_pos, pow-add, mul-add-lt}
 use Rattle.lx_num.specs.declared.Shape.{Shape}
 use Rattle.lx_num.specs.Ints.{modulo, FitsBits, Fits, unsigned}
 use Rattle.lx_num.proofs.Ints.{modulo-below}
 use Rattle.lx_num.proofs.Ranges.{fits_pos, fits_wider, FitsBits-wrap_bits}
 use Rattle.lx_tables.specs.declared.operators.Op.{Op}
+use Rattle.lx_circuit.specs.Places.{Values, At, Word}
 use Rattle.lx_circuit.specs.declared.WidthFault.{WidthFault}
-use Rattle.lx_circuit.specs.Terms.{Term, Terms, Constant, Signal, Unary, Binary, Mux, Cat, Replicate, Slice, Pick, NoTerm, MoreTerms}
+use Rattle.lx_circuit.specs.Terms.{Term, Terms, Constant, Signal, Unary, Binary, Mux, Cat, Replicate, Slice, Pick, Fetch, NoTerm, MoreTerms}
 use Rattle.lx_circuit.specs.Shapes.{Shapes, shape_of, shapes_of, fault_of, faults_of, or_else, joined, joined_bits, pick_shape, some_signed, widest, bits_sum, unary_shape, too_wide, index_fault, binary_fault, replicate_fault, slice_fault, pick_fault, constant_fault}
-use Rattle.lx_circuit.specs.Values.{Values, value_of, values_of, cat_pattern, nth_or_last, count_of}
-use Rattle.lx_circuit.proofs.Cases.{and_true, or_true_left, or_true_right}
+use Rattle.lx_circuit.specs.Values.{value_of, values_of, cat_pattern, nth_or_last, count_of}
 use Rattle.lx_fhdl.specs.Nodes.{IsSmall}
 use Rattle.lx_fhdl.proofs.Fitting.{fits_joined, fits_copies, fits_field, fits_mux, fits_zero}
 use Rattle.lx_fhdl.proofs.Operators.{binary_fits, binary_small, unary_fits, unary_some, joined_some, not_wide, none_left, none_right, index_unsigned}
@@ -35,7 +35,7 @@ AreSmall s n = (x : ℕ) → x < n → IsSmall (s x)
 
 -- the value of each signal fits its shape
 abbrev pub AreFit : Shapes → ℕ → Values → Type 0
-AreFit s n v = (x : ℕ) → x < n → Fits (s x) (v x)
+AreFit s n v = (x : ℕ) → x < n → Fits (s x) (v (At x))
 
 -- ---- the parts of a term that keeps
 
@@ -149,9 +149,15 @@ pick_own s n items i k =
 pub pick_unsigned : (s : Shapes) (n : ℕ) (items : Terms) (i : Term) → TermKeeps s n (Pick items i) → (shape_of s i).signed ≡ false
 pick_unsigned s n items i k = index_unsigned (shape_of s i) (none_left (index_fault (shape_of s i)) (too_wide (pick_shape (shapes_of s items)).bits) (pick_own s n items i k))
 
+pub fetch_of : (s : Shapes) (n m width : ℕ) (i : Term) → TermKeeps s n (Fetch m width i) → TermKeeps s n i
+fetch_of s n m width i k = record { sound = k.sound; fault = none_left (fault_of s i) (constant_fault (unsigned width)) k.fault }
+
+pub fetch_own : (s : Shapes) (n m width : ℕ) (i : Term) → TermKeeps s n (Fetch m width i) → constant_fault (unsigned width) ≡ None
+fetch_own s n m width i k = none_right (fault_of s i) (constant_fault (unsigned width)) k.fault
+
 -- ---- terms that keep, of parts that keep
 
-after_none : (f g : Option WidthFault) → f ≡ None → g ≡ None → or_else f g ≡ None
+pub after_none : (f g : Option WidthFault) → f ≡ None → g ≡ None → or_else f g ≡ None
 after_none f g e h = ap (λ (o : Option WidthFault). or_else o g) e ∙ h
 
 pub keeps_constant : (s : Shapes) (n : ℕ) (value : ℤ) (a : Shape) → constant_fault a ≡ None → TermKeeps s n (Constant value a)
@@ -165,7 +171,7 @@ keeps_unary s n o a k e = record { sound = k.sound; fault = after_none (fault_of
 
 pub keeps_binary : (s : Shapes) (n : ℕ) (o : Op) (a b : Term) → TermKeeps s n a → TermKeeps s n b → binary_fault o (shape_of s a) (shape_of s b) ≡ None → TermKeeps s n (Binary o a b)
 keeps_binary s n o a b k m e = record {
-  sound = and_true (is_sound n a) (is_sound n b) k.sound m.sound;
+  sound = and_from (is_sound n a) (is_sound n b) k.sound m.sound;
   fault = after_none (fault_of s a) (or_else (fault_of s b) (binary_fault o (shape_of s a) (shape_of s b))) k.fault (after_none (fault_of s b) (binary_fault o (shape_of s a) (shape_of s b)) m.fault e);
 }
 
@@ -173,7 +179,7 @@ pub keeps_mux : (s : Shapes) (n : ℕ) (c a b : Term) → TermKeeps s n c → Te
 keeps_mux s n c a b j k m e =
     let own = too_wide (joined (shape_of s a) (shape_of s b)).bits in
     record {
-      sound = and_true (is_sound n c) (is_sound n a && is_sound n b) j.sound (and_true (is_sound n a) (is_sound n b) k.sound m.sound);
+      sound = and_from (is_sound n c) (is_sound n a && is_sound n b) j.sound (and_from (is_sound n a) (is_sound n b) k.sound m.sound);
       fault = after_none (fault_of s c) (or_else (fault_of s a) (or_else (fault_of s b) own)) j.fault (after_none (fault_of s a) (or_else (fault_of s b) own) k.fault (after_none (fault_of s b) own m.fault e));
     }
 
@@ -182,19 +188,19 @@ keeps_none s n = record { sound = refl; fault = refl }
 
 pub keeps_more : (s : Shapes) (n : ℕ) (t : Term) (ts : Terms) → TermKeeps s n t → TermsKeep s n ts → TermsKeep s n (MoreTerms t ts)
 keeps_more s n t ts k m = record {
-  sound = and_true (is_sound n t) (are_sound n ts) k.sound m.sound;
+  sound = and_from (is_sound n t) (are_sound n ts) k.sound m.sound;
   fault = after_none (fault_of s t) (faults_of s ts) k.fault m.fault;
 }
 
 pub keeps_cat : (s : Shapes) (n : ℕ) (parts : Terms) → has_some parts ≡ true → TermsKeep s n parts → too_wide (bits_sum (shapes_of s parts)) ≡ None → TermKeeps s n (Cat parts)
 keeps_cat s n parts h k e = record {
-  sound = and_true (has_some parts) (are_sound n parts) h k.sound;
+  sound = and_from (has_some parts) (are_sound n parts) h k.sound;
   fault = after_none (faults_of s parts) (too_wide (bits_sum (shapes_of s parts))) k.fault e;
 }
 
 pub keeps_pick : (s : Shapes) (n : ℕ) (items : Terms) (i : Term) → has_some items ≡ true → TermsKeep s n items → TermKeeps s n i → pick_fault (shapes_of s items) (shape_of s i) ≡ None → TermKeeps s n (Pick items i)
 keeps_pick s n items i h k m e = record {
-  sound = and_true (has_some items) (are_sound n items && is_sound n i) h (and_true (are_sound n items) (is_sound n i) k.sound m.sound);
+  sound = and_from (has_some items) (are_sound n items && is_sound n i) h (and_from (are_sound n items) (is_sound n i) k.sound m.sound);
   fault = after_none (faults_of s items) (or_else (fault_of s i) (pick_fault (shapes_of s items) (shape_of s i))) k.fault (after_none (fault_of s i) (pick_fault (shapes_of s items) (shape_of s i)) m.fault e);
 }
 
@@ -203,6 +209,9 @@ keeps_replicate s n a count k e = record { sound = k.sound; fault = after_none (
 
 pub keeps_slice : (s : Shapes) (n : ℕ) (a : Term) (low high : ℕ) → TermKeeps s n a → slice_fault (shape_of s a) low high ≡ None → TermKeeps s n (Slice a low high)
 keeps_slice s n a low high k e = record { sound = k.sound; fault = after_none (fault_of s a) (slice_fault (shape_of s a) low high) k.fault e }
+
+pub keeps_fetch : (s : Shapes) (n m width : ℕ) (i : Term) → TermKeeps s n i → constant_fault (unsigned width) ≡ None → TermKeeps s n (Fetch m width i)
+keeps_fetch s n m width i k e = record { sound = k.sound; fault = after_none (fault_of s i) (constant_fault (unsigned width)) k.fault e }
 
 -- ---- shapes
 
@@ -243,6 +252,7 @@ mutual
     some = terms_width s n (some_signed (shapes_of s items)) items h (pick_some s n items i k) (pick_items s n items i k);
     most = not_wide (pick_shape (shapes_of s items)).bits (none_right (index_fault (shape_of s i)) (too_wide (pick_shape (shapes_of s items)).bits) (pick_own s n items i k));
   }
+  term_small s n (Fetch m width i) h k = constant_small (unsigned width) (fetch_own s n m width i k)
 
   terms_bits : (s : Shapes) (n : ℕ) (ts : Terms) → AreSmall s n → has_some ts ≡ true → TermsKeep s n ts → 1 ≤ bits_sum (shapes_of s ts)
   terms_bits s n NoTerm h e k = absurd (cc)
@@ -269,7 +279,7 @@ cat_below s v (MoreTerms t ts) =
 item_fits : (some : Bool) (w : ℕ) (a : Shape) (as_ : List Shape) (z : ℤ) → widest some (a ∷ as_) ≤ w → (some_signed (a ∷ as_) ≡ true → some ≡ true) → Fits a z → FitsBits w some z
 item_fits some w a as_ z h e f =
     fits_wider (joined_bits some a) w some z (omega arith)
-    (fits_joined a.bits a.signed some z (λ g. e (or_true_left a.signed (some_signed as_) g)) f)
+    (fits_joined a.bits a.signed some z (λ g. e (or_left a.signed (some_signed as_) g)) f)
 
 -- so does the value of the item that is chosen
 chosen_fits : (s : Shapes) (v : Values) (some : Bool) (w : ℕ) (items : Terms) (z : ℤ) (m : ℕ) → FitsBits w some z → widest some (shapes_of s items) ≤ w → (some_signed (shapes_of s items) ≡ true → some ≡ true) → EachTerm (λ t. Fits (shape_of s t) (value_of s v t)) items → FitsBits w some (nth_or_last z (values_of s v items) m)
@@ -279,7 +289,7 @@ chosen_fits s v some w (MoreTerms t ts) z (suc m) f h e k =
     chosen_fits s v some w ts (value_of s v t) m
     (item_fits some w (shape_of s t) (shapes_of s ts) (value_of s v t) h e k.0)
     (omega arith)
-    (λ g. e (or_true_right (shape_of s t).signed (some_signed (shapes_of s ts)) g))
+    (λ g. e (or_right (shape_of s t).signed (some_signed (shapes_of s ts)) g))
     k.1
 
 -- the value of a term that keeps fits its shape
@@ -304,6 +314,7 @@ mutual
       let some = some_signed (shapes_of s items) in
       let w = widest some (shapes_of s items) in
       chosen_fits s v some w items (pos 0) (count_of (value_of s v i)) (fits_zero w some) (omega arith) (λ g. g) (terms_fit s n v items h f (pick_items s n items i k))
+  term_fits s n v (Fetch m width i) h f k = FitsBits-wrap_bits width false (v (Word m (count_of (value_of s v i)))) (constant_small (unsigned width) (fetch_own s n m width i k)).some
 
   pub terms_fit : (s : Shapes) (n : ℕ) (v : Values) (ts : Terms) → AreSmall s n → AreFit s n v → TermsKeep s n ts → EachTerm (λ t. Fits (shape_of s t) (value_of s v t)) ts
   terms_fit s n v NoTerm h f k = tt

@@ -1,8 +1,8 @@
--- Statements that read no signal.
+-- Statements that read neither a signal nor a word of a memory.
 use Rattle.std.specs.Prelude.{ℕ, ℤ, pos, Bool, true, false, ◌&&◌}
-use Rattle.lx_circuit.specs.Terms.{Term, Terms, Constant, Signal, Unary, Binary, Mux, Cat, Replicate, Slice, Pick, NoTerm, MoreTerms}
+use Rattle.lx_circuit.specs.Terms.{Term, Terms, Constant, Signal, Unary, Binary, Mux, Cat, Replicate, Slice, Pick, Fetch, NoTerm, MoreTerms}
 use Rattle.lx_circuit.specs.Shapes.{Shapes}
-use Rattle.lx_circuit.specs.Values.{Values}
+use Rattle.lx_circuit.specs.Places.{Values}
 use Rattle.lx_circuit.specs.Statements.{Whole, Stmt, Assign, If, Case, Branches, NoBranch, Branch, Block, Done, Then, taken_block, result}
 use Rattle.lx_lowering.specs.Flat.{one}
 
@@ -17,6 +17,8 @@ abbrev mutual
   names_none (Replicate a count) = names_none a
   names_none (Slice a low high) = names_none a
   names_none (Pick items index) = all_name_none items && names_none index
+  -- a word may change, whatever its index is
+  names_none (Fetch m width at) = false
 
   pub all_name_none : Terms → Bool
   all_name_none NoTerm = true
@@ -38,7 +40,7 @@ abbrev mutual
   block_reads_none (Then s ss) = reads_none s && block_reads_none ss
 
 abbrev pub zeros : Values
-zeros x = pos 0
+zeros p = pos 0
 
 -- what statements that read nothing give a signal that was start
 abbrev pub constant_of : Shapes → ℕ → ℤ → Block → Term

@@ -1,15 +1,16 @@
--- A circuit that can be lowered, with statements of every kind: a counter q in a domain, and u and s beside it.
-use Rattle.std.specs.Prelude.{ℤ, pos, negsuc, true, false, List, [], ◌∷◌, Some, codes}
+-- A circuit that can be lowered, with statements of every kind: a counter q in a domain, u and s beside it, and a memory.
+use Rattle.std.specs.Prelude.{ℤ, pos, negsuc, true, false, List, [], ◌∷◌, Some, None, codes}
 use Rattle.lx_num.specs.declared.Shape.{Shape}
 use Rattle.lx_num.specs.Ints.{shape, unsigned}
 use Rattle.lx_tables.specs.declared.operators.Op.TheVariants as op
-use Rattle.lx_circuit.specs.Terms.{Constant, Signal, Binary, Pick, NoTerm, MoreTerms}
+use Rattle.lx_circuit.specs.Terms.{Constant, Signal, Binary, Pick, Fetch, NoTerm, MoreTerms}
 use Rattle.lx_circuit.specs.Statements.{Whole, Part, CatTarget, PickTarget, NoTarget, MoreTargets, Stmt, Assign, If, Case, NoBranch, Branch, NoArm, Arm, Block, Done, Then}
+use Rattle.lx_circuit.specs.Memories.{Memory, Port, WriteFirst}
 use Rattle.lx_circuit.specs.Circuit.{Made, Circuit}
 use Rattle.lx_lowering.specs.Flat.{one}
 
 abbrev pub signal_of : Shape → ℤ → Made
-signal_of a reset = record { shape = a; reset = reset; reset_less = false }
+signal_of a reset = record { shape = a; reset = reset; reset_less = false; given = false }
 
 -- s has four signed bits and is -3 at first, u has eight, the counter q has two, and its reset r has one
 abbrev pub instance_signals : List Made
@@ -33,6 +34,16 @@ arms =
     NoArm))
     Done
 
+-- u[4:8].eq(m[q]), where m is a memory of four words, which a port writes
+abbrev pub word_read : Stmt
+word_read = Assign (Part 1 4 4) (Fetch 0 8 (Signal 2))
+
+abbrev pub words : Memory
+words = record { width = 8; depth = 4; init = 17 ∷ 44 ∷ [] }
+
+abbrev pub port : Port
+port = record { memory = 0; adr = 2; domain = Some 0; reader = None; writer = Some (record { from = 1; we = 3; part = 8 }); mode = WriteFirst }
+
 -- q.eq(q + 1)
 abbrev pub counting : Block
 counting = one (Assign (Whole 2) (Binary op.Add (Signal 2) (Constant (pos 1) (unsigned 1))))
@@ -40,7 +51,9 @@ counting = one (Assign (Whole 2) (Binary op.Add (Signal 2) (Constant (pos 1) (un
 unfoldable pub instance : Circuit
 instance = record {
   signals = instance_signals;
-  comb = Then branches (Then arms Done);
+  comb = Then branches (Then arms (Then word_read Done));
   domains = record { name = codes "sys"; reset = Some 3; stmts = counting } ∷ [];
+  memories = words ∷ [];
+  ports = port ∷ [];
   ios = 0 ∷ 1 ∷ 3 ∷ [];
 }

@@ -1,10 +1,11 @@
 -- Lowering keeps every run.
 use Rattle.std.specs.Prelude.{◌≡◌, ◌⊎◌, ℕ, ℤ, Bool, true, false, ◌&&◌, List, [], ◌∷◌, ◌+◌, ◌<◌, ◌≤◌, None, nat_lt, map, length}
-use Rattle.lx_circuit.specs.Terms.{Term, Terms, Constant, Signal, Unary, Binary, Mux, Cat, Replicate, Slice, Pick, NoTerm, MoreTerms}
+use Rattle.lx_circuit.specs.Terms.{Term, Terms, Constant, Signal, Unary, Binary, Mux, Cat, Replicate, Slice, Pick, Fetch, NoTerm, MoreTerms}
 use Rattle.lx_circuit.specs.Shapes.{Shapes, shape_of, fault_of}
-use Rattle.lx_circuit.specs.Values.{Values}
-use Rattle.lx_circuit.specs.Statements.{Target, Targets, Whole, Part, CatTarget, PickTarget, NoTarget, MoreTargets, Stmt, Assign, If, Case, Branches, NoBranch, Branch, Arms, NoArm, Arm, Block, Done, Then, target_bits}
-use Rattle.lx_circuit.specs.Circuit.{Circuit, Made, Domain, Step, shapes, made, IsView, InputsFit, StepsFit, KeepsShapes, role}
+use Rattle.lx_circuit.specs.Statements.{Target, Targets, Whole, Part, CatTarget, PickTarget, NoTarget, MoreTargets, Stmt, Assign, If, Case, Branches, NoBranch, Branch, Arms, NoArm, Arm, Block, Done, Then, target_bits, drives_block}
+use Rattle.lx_circuit.specs.Circuit.{Circuit, Made, Domain, shapes, made, domain_at, role}
+use Rattle.lx_circuit.specs.Fitting.{KeepsShapes}
+use Rattle.lx_circuit.specs.Runs.{HaveSameRuns, Extends}
 use Rattle.lx_circuit.specs.Reads.{HasOrder}
 use Rattle.lx_fhdl.specs.Nodes.{IsSmall}
 use Rattle.lx_fhdl.specs.Keeping.{EachOf}
@@ -27,6 +28,7 @@ abbrev mutual
   is_sound n (Replicate a count) = is_sound n a
   is_sound n (Slice a low high) = is_sound n a
   is_sound n (Pick items index) = has_some items && (are_sound n items && is_sound n index)
+  is_sound n (Fetch m width at) = is_sound n at
 
   pub are_sound : ℕ → Terms → Bool
   are_sound n NoTerm = true
@@ -98,14 +100,16 @@ lowered_domain c d = record { name = d.name; reset = d.reset; stmts = lowered_sy
 
 -- One list of flat statements for each signal; a combinatorial one that reads no signal is one assignment.
 unfoldable pub lowered : Circuit → Circuit
-lowered c = record { signals = c.signals; comb = lowered_comb c; domains = map (lowered_domain c) c.domains; ios = c.ios }
+lowered c = record {
+  signals = c.signals;
+  comb = lowered_comb c;
+  domains = map (lowered_domain c) c.domains;
+  memories = c.memories;
+  ports = c.ports;
+  ios = c.ios;
+}
 
 -- ---- what lowering keeps
-
--- every run: for all inputs that fit, what is a view of the one is a view of the other
-pub record HaveSameRuns (c e : Circuit) : Type 0 where
-  pub there : (steps : List Step) (inputs : Values) → StepsFit c steps → InputsFit c inputs → (v : Values) → IsView c steps inputs v → IsView e steps inputs v
-  pub back : (steps : List Step) (inputs : Values) → StepsFit c steps → InputsFit c inputs → (v : Values) → IsView e steps inputs v → IsView c steps inputs v
 
 -- one assignment of a constant to the whole signal, under no condition
 pub record IsOneConstant (s : Shapes) (x : ℕ) (b : Block) : Type 0 where
@@ -116,10 +120,27 @@ pub record IsOneConstant (s : Shapes) (x : ℕ) (b : Block) : Type 0 where
 pub record IsFolded (c : Circuit) : Type 0 where
   pub each : (x : ℕ) → block_reads_none (split_block x c.comb) ≡ true → (split_block x c.comb ≡ Done) ⊎ IsOneConstant (shapes c) x (split_block x c.comb)
 
--- The lowered circuit has the same runs, its signals have the same roles, its statements are plain, those that read nothing are constants, and its reads have an order too.
+-- the signals, memories, ports and ios of two circuits are the same, and so are the names and the resets of their domains
+pub record SameParts (c e : Circuit) : Type 0 where
+  pub signals : e.signals ≡ c.signals
+  pub memories : e.memories ≡ c.memories
+  pub ports : e.ports ≡ c.ports
+  pub ios : e.ios ≡ c.ios
+  pub names : map (λ (d : Domain). d.name) e.domains ≡ map (λ (d : Domain). d.name) c.domains
+  pub resets : map (λ (d : Domain). d.reset) e.domains ≡ map (λ (d : Domain). d.reset) c.domains
+
+-- a signal is assigned in the same of two circuits' lists: the combinatorial one, and that of each domain
+pub record DrivenAlike (c e : Circuit) : Type 0 where
+  pub comb : (x : ℕ) → drives_block x e.comb ≡ drives_block x c.comb
+  pub sync : (x d : ℕ) → drives_block x (domain_at e d).stmts ≡ drives_block x (domain_at c d).stmts
+
+-- The lowered circuit has the same runs and differs in statements alone; its signals have the same roles and the same
+-- drivers, its statements are plain, those that read nothing are constants, and its reads have an order too.
 pub record Lowers (c e : Circuit) : Type 0 where
   pub runs : HaveSameRuns c e
+  pub parts : SameParts c e
   pub roles : (x : ℕ) → role c x ≡ role e x
+  pub drivers : DrivenAlike c e
   pub comb : ArePlain e.comb
   pub sync : EachOf (λ (d : Domain). ArePlain d.stmts) e.domains
   pub folded : IsFolded e
@@ -127,3 +148,7 @@ pub record Lowers (c e : Circuit) : Type 0 where
 
 abbrev pub IsLoweringLaw : Type 0
 IsLoweringLaw = (c : Circuit) → CanBeLowered c → Lowers c (lowered c)
+
+-- So lowering can stand before and behind passes that add signals.
+abbrev pub IsExtendingLaw : Type 0
+IsExtendingLaw = (n : ℕ) (c : Circuit) → CanBeLowered c → Extends n c (lowered c)

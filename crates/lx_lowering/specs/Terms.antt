@@ -3,7 +3,7 @@ use Rattle.std.specs.Prelude.{ℕ, pos, ◌+◌, ◌^◌, nat_le, nat_lt, if◌t
 use Rattle.lx_num.specs.Ints.{unsigned, wrapped}
 use Rattle.lx_tables.specs.declared.operators.Op.{Op}
 use Rattle.lx_tables.specs.declared.operators.Op.TheVariants as op
-use Rattle.lx_circuit.specs.Terms.{Term, Terms, Constant, Signal, Unary, Binary, Mux, Cat, Replicate, Slice, Pick, NoTerm, MoreTerms}
+use Rattle.lx_circuit.specs.Terms.{Term, Terms, Constant, Signal, Unary, Binary, Mux, Cat, Replicate, Slice, Pick, Fetch, NoTerm, MoreTerms}
 use Rattle.lx_circuit.specs.Shapes.{Shapes, shape_of}
 use Rattle.lx_circuit.specs.Values.{count_of}
 
@@ -41,6 +41,7 @@ abbrev mutual
   lower_term s (Replicate a count) = Replicate (lower_term s a) count
   lower_term s (Slice a low high) = Slice (lower_term s a) low high
   lower_term s (Pick items index) = pick_from s 0 (lower_terms s items) (lower_term s index)
+  lower_term s (Fetch m width at) = Fetch m width (lower_term s at)
 
   pub lower_terms : Shapes → Terms → Terms
   lower_terms s NoTerm = NoTerm

@@ -1,11 +1,12 @@
 -- What expressions and statements become, worked by hand.
-use Rattle.std.specs.Prelude.{◌≡◌, ℕ, ℤ, pos, negsuc, true, false, [], ◌∷◌, Some, nat_eq, if◌then◌else◌, codes}
+use Rattle.std.specs.Prelude.{◌≡◌, ℕ, ℤ, pos, negsuc, true, false, [], ◌∷◌, Some, None, nat_eq, if◌then◌else◌, codes}
 use Rattle.lx_num.specs.declared.Shape.{Shape}
 use Rattle.lx_num.specs.Ints.{shape, unsigned}
 use Rattle.lx_tables.specs.declared.operators.Op.TheVariants as op
-use Rattle.lx_circuit.specs.Terms.{Term, Constant, Signal, Unary, Binary, Mux, Cat, Pick, NoTerm, MoreTerms}
+use Rattle.lx_circuit.specs.Terms.{Term, Constant, Signal, Unary, Binary, Mux, Cat, Pick, Fetch, NoTerm, MoreTerms}
 use Rattle.lx_circuit.specs.Shapes.{Shapes}
 use Rattle.lx_circuit.specs.Statements.{Whole, Part, CatTarget, PickTarget, NoTarget, MoreTargets, Stmt, Assign, If, Case, NoBranch, Branch, NoArm, Arm, Block, Done, Then}
+use Rattle.lx_circuit.specs.Memories.{Memory, Port, WriteFirst}
 use Rattle.lx_circuit.specs.Circuit.{Made, Circuit}
 use Rattle.lx_lowering.specs.Terms.{lower_term}
 use Rattle.lx_lowering.specs.Flat.{flat, flat_block}
@@ -50,6 +51,10 @@ four_items i = Pick (MoreTerms (Signal 0) (MoreTerms (Signal 1) (MoreTerms (Sign
 -- Array([s, u])[r]
 abbrev pub two_items : Term
 two_items = Pick (MoreTerms (Signal 0) (MoreTerms (Signal 1) NoTerm)) (Signal 3)
+
+-- the word of memory 0 at the index
+abbrev pub word_at : Term → Term
+word_at i = Fetch 0 8 i
 
 -- e >> k, the amount of so many bits
 abbrev pub shifted : Term → ℕ → ℕ → Term
@@ -122,7 +127,14 @@ low_bits = Then (Assign (Part 1 0 4) (Constant (pos 3) (unsigned 4))) Done
 -- ---- a circuit
 
 abbrev pub signal_of : Shape → ℤ → Made
-signal_of a reset = record { shape = a; reset = reset; reset_less = false }
+signal_of a reset = record { shape = a; reset = reset; reset_less = false; given = false }
+
+-- four words, and a port that writes one
+abbrev pub words : Memory
+words = record { width = 8; depth = 4; init = 17 ∷ [] }
+
+abbrev pub port : Port
+port = record { memory = 0; adr = 2; domain = Some 0; reader = None; writer = Some (record { from = 1; we = 3; part = 8 }); mode = WriteFirst }
 
 -- u is 165 at first, and the others 0; the statements of q, which a reset r sets to 0, are those of a domain
 abbrev pub circuit_of : Block → Block → Circuit
@@ -130,6 +142,8 @@ circuit_of comb sync = record {
   signals = signal_of (shape 4 true) (pos 0) ∷ signal_of (unsigned 8) (pos 165) ∷ signal_of (unsigned 2) (pos 0) ∷ signal_of (unsigned 1) (pos 0) ∷ [];
   comb = comb;
   domains = record { name = codes "sys"; reset = Some 3; stmts = sync } ∷ [];
+  memories = words ∷ [];
+  ports = port ∷ [];
   ios = 3 ∷ [];
 }
 
@@ -140,6 +154,9 @@ pub record AreWorked : Type 0 where
   -- one bit is never 2
   pub picked_by_bit : lower_term shapes (four_items (Signal 3)) ≡ Mux (Binary op.Eq (Signal 3) (bit 0)) (Signal 0) (Mux (Binary op.Eq (Signal 3) (bit 1)) (Signal 1) (Mux (bit 0) (Signal 2) (Signal 3)))
   pub picked_inside : lower_term shapes (Cat (MoreTerms (Signal 2) (MoreTerms (Unary op.Not two_items) NoTerm))) ≡ Cat (MoreTerms (Signal 2) (MoreTerms (Unary op.Not (Mux (Binary op.Eq (Signal 3) (bit 0)) (Signal 0) (Signal 1))) NoTerm))
+  -- the index of a word is lowered too
+  pub word : lower_term shapes (word_at two_items) ≡ word_at (Mux (Binary op.Eq (Signal 3) (bit 0)) (Signal 0) (Signal 1))
+  pub word_assigned : flat_block shapes (Then (Assign (Whole 1) (word_at (Signal 2))) Done) ≡ Then (Assign (Whole 1) (word_at (Signal 2))) Done
   pub shifted_far : lower_term shapes (shifted (Signal 1) 200 8) ≡ shifted (Signal 1) 8 8
   pub shifted_out : lower_term shapes (shifted (Signal 1) 8 4) ≡ shifted (Signal 1) 8 4
   pub shifted_near : lower_term shapes (shifted (Signal 1) 7 3) ≡ shifted (Signal 1) 7 3
@@ -172,6 +189,8 @@ pub record AreWorked : Type 0 where
   pub no_constant : folded shapes 1 (pos 165) Done ≡ Done
   pub read_value : folded shapes 1 (pos 165) (Then (Assign (Whole 1) (Signal 2)) Done) ≡ Then (Assign (Whole 1) (Signal 2)) Done
   pub read_condition : folded shapes 1 (pos 165) (only_if (Signal 3) (set 1 7) Done) ≡ only_if (Signal 3) (set 1 7) Done
+  -- a word may change, though its index is a number
+  pub read_word : folded shapes 1 (pos 165) (Then (Assign (Whole 1) (word_at (bit 1))) Done) ≡ Then (Assign (Whole 1) (word_at (bit 1))) Done
   -- a list for each signal, those of s before those of u
   pub circuit : lowered (circuit_of (Then (Assign (Part 1 0 4) (Constant (pos 3) (unsigned 4))) (only_if (Signal 3) (set 0 3) Done)) (only_if (Signal 1) (set 2 1) Done))
       ≡ circuit_of (only_if (Signal 3) (set 0 3) (set 1 163)) (only_if (Signal 1) (set 2 1) Done)

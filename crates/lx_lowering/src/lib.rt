@@ -3,16 +3,22 @@
 
 ghost use Rattle.lx_circuit.specs.Reads.{HasOrder};
 ghost use Rattle.lx_lowering.specs.Instance.{instance};
-ghost use Rattle.lx_lowering.specs.Lowering.{CanBeLowered, IsLoweringLaw};
+ghost use Rattle.lx_lowering.specs.Lowering.{CanBeLowered, IsExtendingLaw, IsLoweringLaw};
 ghost use Rattle.lx_lowering.specs.Worked.{AreWorked};
 
-/// The lowered circuit has the same runs, plain statements, constants in place of those that read nothing,
-/// and an order of its reads where there was one.
+/// The lowered circuit has the same runs, differs in statements alone, and has the same drivers of each signal,
+/// comb and each domain; its statements are plain, constants stand in place of those that read nothing, and its
+/// reads have an order where there was one.
 pub fn lowering_law()
     ensures { IsLoweringLaw }
 {}
 
-/// A circuit with a clock domain, a reset, and statements of every kind is one that `lowering_law` speaks of.
+/// The lowered circuit extends the circuit by no signals: so lowering follows passes that add some, and they follow it.
+pub fn extending_law()
+    ensures { IsExtendingLaw }
+{}
+
+/// A circuit with a clock domain, a reset, a memory, and statements of every kind is one that `lowering_law` speaks of.
 pub fn instance_law()
     ensures lowering { CanBeLowered instance }
     ensures order { HasOrder instance }

@@ -1,5 +1,5 @@
 -- Each row takes a token, and stands lower than its spot by more than its length.
-use Rattle.std.proofs.Common.{ℕ, Bool, true, false, ◌≡◌, ◌<◌, ◌≤◌, ◌+◌, ◌&&◌, ◌++◌, nat_lt, max, List, [], ◌∷◌, length, map, refl, ap, arith, lit≤, slice_get, Option, Some, None}
+use Rattle.std.proofs.Common.{ℕ, Bool, true, false, ◌≡◌, ◌<◌, ◌≤◌, ◌+◌, ◌&&◌, ◌++◌, nat_lt, max, List, [], ◌∷◌, length, map, refl, ap, arith, lit≤, slice_get, Some}
 use Rattle.std.proofs.lemmas.Bool.{ltb-true}
 use Rattle.lx_grammar.specs.declared.grammar.Spot.{Spot}
 use Rattle.lx_grammar.specs.declared.grammar.Spot.TheVariants as spot

@@ -1,21 +1,17 @@
 -- What each step does to the reader's state.
-use Rattle.std.proofs.Common.{ℕ, zero, suc, Bool, true, false, ◌≡◌, ◌<◌, ◌≤◌, ◌+◌, ◌-◌, ◌*◌, ◌&&◌, ◌++◌, ◌↔◌, max, nat_lt, nat_eq, List, [], ◌∷◌, length, reverse, map, take, drop, refl, sym, ap, ◌∙◌, subst, arith, slice_get, Option, Some, None, length-append, append_assoc, append-nil, add-one, drop-cons, get_or, Result, Ok, Err, option_to_list}
-use Rattle.std.proofs.lemmas.Bool.{ltb-true, lt-ltb}
-use Rattle.std.proofs.lemmas.List.{reverse-append, length-map}
+use Rattle.std.proofs.Common.{ℕ, zero, suc, true, false, ◌≡◌, ◌<◌, ◌≤◌, ◌+◌, ◌-◌, ◌*◌, ◌&&◌, ◌++◌, max, List, [], ◌∷◌, length, reverse, map, take, drop, refl, sym, ap, ◌∙◌, subst, arith, Option, Some, None, length-append, append-nil, add-one, drop-cons, get_or, Result, Ok, Err, option_to_list}
+use Rattle.std.proofs.lemmas.Bool.{lt-ltb}
+use Rattle.std.proofs.lemmas.List.{reverse-append}
 use Rattle.std.specs.Global.{Vec}
 use Rattle.std.proofs.Math.Seq.{drop-nil}
 use Rattle.lx_arena.specs.declared.Id.{Id}
 use Rattle.lx_pytree.specs.declared.tree.PyNodes.{PyNodes}
-use Rattle.lx_token.specs.declared.tokens.Token.{Token}
 use Rattle.lx_grammar.specs.declared.sign.Item.{Item}
 use Rattle.lx_grammar.specs.declared.sign.Sign.{Sign}
 use Rattle.lx_grammar.specs.declared.grammar.Spot.{Spot}
 use Rattle.lx_grammar.specs.declared.grammar.Symbol.{Symbol}
 use Rattle.lx_grammar.specs.declared.grammar.Symbol.TheVariants as symbol
 use Rattle.lx_grammar.specs.Numbers.{number}
-use Rattle.lx_grammar.specs.Grammar.{rules}
-use Rattle.lx_grammar.specs.Pick.{pick}
-use Rattle.lx_grammar.specs.Ahead.{view}
 use Rattle.lx_grammar.specs.Derives.{Tree, Parts, end, token, child, joined, wrap, label, takes, IsTreeOf}
 use Rattle.lx_grammar.specs.Reads.{Reads, done, opened}
 use Rattle.lx_grammar.specs.declared.grammar.Rule.{Rule}
@@ -279,16 +275,16 @@ close_moves items m nodes os outer qs S id eu ea len cst eo hung eq sound =
     let low : (parts_below n outer.parts && opens_below n (reverse os.items)) ≡ true = subst (λ v. opens_below n v ≡ true) ro sound.opens in
     let low1 : parts_below n outer.parts ≡ true = left_of (parts_below n outer.parts) (opens_below n (reverse os.items)) low in
     let low2 : opens_below n (reverse os.items) ≡ true = right_of (parts_below n outer.parts) (opens_below n (reverse os.items)) low in
-    let alike : (i : ℕ) → i < n → f i ≡ g i = λ i lt. sym (hung.kept i lt) in
-    let back : (i : ℕ) → i < n → g i ≡ f i = λ i lt. hung.kept i lt in
+    let alike : (i : ℕ) → i < n → f i ≡ g i = λ i lt. sym (hung.grows.trees i lt) in
+    let back : (i : ℕ) → i < n → g i ≡ f i = λ i lt. hung.grows.trees i lt in
     let ps : Parts = plants f m.current.parts in
-    let node : g id.place ≡ wrap (label m.current.spot) ps = hung.hangs ∙ ap (λ q. wrap (label m.current.spot) q) (plants_same g f n m.current.parts sound.parts back) in
+    let node : g id.place ≡ wrap (label m.current.spot) ps = hung.is in
     let parts : plants g qs ≡ joined (plants f outer.parts) (child (wrap (label m.current.spot) ps) end) = ap (λ v. plants g v) eq ∙ (plants_push_node g outer.parts id ∙ (ap (λ q. joined q (child (g id.place) end)) (plants_same g f n outer.parts low1 back) ∙ ap (λ u. joined (plants f outer.parts) (child u end)) node)) in
     let whole : Parts = joined (plants f outer.parts) (child (wrap (label m.current.spot) ps) end) in
     record {
       trees = λ t. (λ h. subst (λ q. Ends g (reverse os.items) outer.spot q R l t) (sym parts) (ends_more f g n (reverse os.items) outer.spot whole R l t low2 alike (subst (λ T. Ends f (reverse os.items) outer.spot whole T l t) ea (close_in f (reverse os.items) outer m.current.spot ps S l t eu (subst (λ v. Ends f v m.current.spot ps S l t) ro h)))), λ h. subst (λ v. Ends f v m.current.spot ps S l t) (sym ro) (close_out f (reverse os.items) outer m.current.spot ps S l t eu (subst (λ T. Ends f (reverse os.items) outer.spot whole T l t) (sym ea) (ends_more g f n (reverse os.items) outer.spot whole R l t low2 back (subst (λ q. Ends g (reverse os.items) outer.spot q R l t) parts h)))));
       fewer = omega (arith, lo, len, cst);
-      sound = record { parts = subst (λ v. parts_below (length nodes) v ≡ true) (sym eq) (parts_push (length nodes) outer.parts (part.Node id) (parts_more n (length nodes) outer.parts hung.longer low1) (lt-ltb id.place (length nodes) hung.inside)); opens = opens_more n (length nodes) (reverse os.items) hung.longer low2 };
+      sound = record { parts = subst (λ v. parts_below (length nodes) v ≡ true) (sym eq) (parts_push (length nodes) outer.parts (part.Node id) (parts_more n (length nodes) outer.parts hung.grows.longer low1) (lt-ltb id.place (length nodes) hung.within)); opens = opens_more n (length nodes) (reverse os.items) hung.grows.longer low2 };
     }
 
 whole_in : (f : ℕ → Tree) (r : Spot) (ps : Parts) (S : List Step) (t : Tree) → upto S ≡ [] → Ends f [] r ps S [] t → t ≡ wrap (label r) ps
@@ -313,10 +309,10 @@ close_whole items m new S id eu eo past hung sound =
     let ps : Parts = plants f m.current.parts in
     let ro : reverse m.opens.items ≡ [] = ap (λ v. reverse v) eo in
     let d : drop m.at items ≡ [] = drop_past items m.at past in
-    let node : g id.place ≡ wrap (label m.current.spot) ps = hung.hangs ∙ ap (λ q. wrap (label m.current.spot) q) (plants_same g f (length m.nodes) m.current.parts sound.parts (λ i lt. hung.kept i lt)) in
+    let node : g id.place ≡ wrap (label m.current.spot) ps = hung.is in
     record {
       trees = λ t. (λ h. whole_in f m.current.spot ps S t eu (subst (λ v. Ends f v m.current.spot ps S [] t) ro (subst (λ k. Ends f (reverse m.opens.items) m.current.spot ps S k t) d h)) ∙ sym node, λ e. subst (λ k. Ends f (reverse m.opens.items) m.current.spot ps S k t) (sym d) (subst (λ v. Ends f v m.current.spot ps S [] t) (sym ro) (whole_out f m.current.spot ps S t eu (e ∙ node))));
-      inside = hung.inside;
+      inside = hung.within;
     }
 
 pub close_stuck : (items : List Item) (m : Machine) (S : List Step) (t : Tree) → upto S ≡ [] → m.opens.items ≡ [] → m.at < length items → EndsIn items m S t → ⊥

@@ -1,11 +1,13 @@
 -- Trees in the arena.
-use Rattle.std.proofs.Common.{ℕ, zero, suc, Bool, true, false, ◌≡◌, ◌<◌, ◌≤◌, ◌&&◌, ◌++◌, nat_lt, List, [], ◌∷◌, length, refl, sym, ap, ◌∙◌, subst, arith, slice_get, Option, Some, None, length-append, IfSome, IsTrue, rules, Result, Ok, Err, MatchResult}
+use Rattle.std.proofs.Common.{ℕ, true, ◌≡◌, ◌<◌, ◌≤◌, ◌++◌, nat_lt, List, [], ◌∷◌, length, refl, sym, ap, ◌∙◌, subst, arith, slice_get, Some, None, Result, Ok, Err, MatchResult}
 use Rattle.std.proofs.lemmas.Bool.{ltb-true, lt-ltb}
-use Rattle.std.proofs.lemmas.Option.{slice_get_within, slice_get_cases}
 use Rattle.lx_text.specs.declared.lists.NoMemory.{NoMemory}
 use Rattle.lx_arena.specs.Lower.{EachLower}
+use Rattle.lx_arena.specs.Folds.{IsLocal, Added}
+use Rattle.lx_arena.proofs.Folds.{added_by, fold_at-is, grows_not}
+use Rattle.lx_arena.proofs.Places.{lower_more}
 use Rattle.lx_grammar.specs.declared.grammar.Rule.{Rule}
-use Rattle.lx_grammar.specs.Derives.{Tree, Grown, NoTree, Parts, end, token, child, joined, wrap}
+use Rattle.lx_grammar.specs.Derives.{Tree, Grown, NoTree, end, token, child, joined, wrap}
 use Rattle.lx_grammar.proofs.Checks.{left_of, right_of, both_of}
 use Rattle.lx_pytree.specs.declared.tree.PyNode.{PyNode}
 use Rattle.lx_pytree.specs.declared.tree.PyPart.{PyPart}
@@ -14,7 +16,7 @@ use Rattle.lx_arena.specs.declared.Id.{Id}
 use Rattle.lx_token.specs.declared.tokens.Token.{Token}
 use Rattle.lx_pytree.specs.declared.tree.PyNodes.{PyNodes}
 use Rattle.lx_pytree.specs.Below.{part_below, parts_below}
-use Rattle.lx_pytree.specs.Trees.{plants, plant_some, tree_within, tree_at, below_node, IsSole, IsHung, IsClosed}
+use Rattle.lx_pytree.specs.Trees.{plants, node_tree, tree_at, below_node, IsSole, IsHung, IsClosed}
 
 -- parts below n hang alike where the trees below n are alike
 pub plants_same : (f g : ℕ → Tree) (n : ℕ) (ps : List PyPart) → parts_below n ps ≡ true → ((i : ℕ) → i < n → f i ≡ g i) → plants f ps ≡ plants g ps
@@ -51,75 +53,37 @@ plants_push_token f [] x = refl
 plants_push_token f (part.Token y ∷ ps) x = ap (λ qs. token y qs) (plants_push_token f ps x)
 plants_push_token f (part.Node j ∷ ps) x = ap (λ qs. child (f j.place) qs) (plants_push_token f ps x)
 
-lower_some : (o : Option PyNode) (at : ℕ) (node : PyNode) → IfSome o (λ x. IsTrue (below_node x at)) → o ≡ Some node → parts_below at node.parts ≡ true
-lower_some None at node h e = cc
-lower_some (Some x) at node h e = let is : x ≡ node = cc in subst (λ (y : PyNode). parts_below at y.parts ≡ true) is (search rules)
+pub tree_local : IsLocal below_node node_tree
+unfolding parts_below
+tree_local = record { same = λ f g n node alike low. ap (λ ps. Grown node.rule ps) (plants_same f g n node.parts low alike) }
 
-get_front : (nodes more : List PyNode) (at : ℕ) → at < length nodes → slice_get (nodes ++ more) at ≡ slice_get nodes at
-get_front [] more at lt = absurd (omega arith)
-get_front (x ∷ nodes) more zero lt = refl
-get_front (x ∷ nodes) more (suc at) lt = get_front nodes more at (omega arith)
-
-get_last : (nodes : List PyNode) (node : PyNode) → slice_get (nodes ++ node ∷ []) (length nodes) ≡ Some node
-get_last [] node = refl
-get_last (x ∷ nodes) node = get_last nodes node
-
-lower_at : (nodes : List PyNode) (at : ℕ) (node : PyNode) → EachLower below_node nodes → slice_get nodes at ≡ Some node → parts_below at node.parts ≡ true
-lower_at nodes at node h e = lower_some (slice_get nodes at) at node (h at) e
-
-plant_same : (f g : ℕ → Tree) (n : ℕ) (o : Option PyNode) → ((node : PyNode) → o ≡ Some node → parts_below n node.parts ≡ true) → ((i : ℕ) → i < n → f i ≡ g i) → plant_some f o ≡ plant_some g o
-plant_same f g n None h e = refl
-plant_same f g n (Some node) h e = ap (λ ps. Grown node.rule ps) (plants_same f g n node.parts (h node refl) e)
-
--- levels past a node's place change nothing
-pub same_within : (b m n at : ℕ) (nodes : List PyNode) → EachLower below_node nodes → at < b → at < m → at < n → tree_within nodes m at ≡ tree_within nodes n at
-unfolding tree_within
-same_within zero m n at nodes h lb lm ln = absurd (omega arith)
-same_within (suc b) zero n at nodes h lb lm ln = absurd (omega arith)
-same_within (suc b) (suc m) zero at nodes h lb lm ln = absurd (omega arith)
-same_within (suc b) (suc m) (suc n) at nodes h lb lm ln =
-    plant_same (tree_within nodes m) (tree_within nodes n) at (slice_get nodes at) (λ node e. lower_at nodes at node h e) (λ i lt. same_within b m n i nodes h (omega arith) (omega arith) (omega arith))
-
--- more nodes change no tree
-pub tree_more : (m at : ℕ) (nodes more : List PyNode) → EachLower below_node nodes → at < length nodes → tree_within (nodes ++ more) m at ≡ tree_within nodes m at
-unfolding tree_within
-tree_more zero at nodes more h lt = refl
-tree_more (suc m) at nodes more h lt =
-    ap (λ o. plant_some (tree_within (nodes ++ more) m) o) (get_front nodes more at lt)
-    ∙ plant_same (tree_within (nodes ++ more) m) (tree_within nodes m) at (slice_get nodes at) (λ node e. lower_at nodes at node h e) (λ i li. tree_more m i nodes more h (omega arith))
+-- the tree at a place hangs the parts of the node there
+pub tree_node : (nodes : List PyNode) (place : ℕ) (node : PyNode) → EachLower below_node nodes → slice_get nodes place ≡ Some node → tree_at nodes place ≡ node_tree (tree_at nodes) node
+unfolding tree_at
+tree_node nodes place node low at = fold_at-is below_node NoTree node_tree tree_local nodes low place node at
 
 -- a node that is pushed hangs its parts
-pub pushed_tree : (nodes : List PyNode) (node : PyNode) → EachLower below_node nodes → parts_below (length nodes) node.parts ≡ true → tree_at (nodes ++ node ∷ []) (length nodes) ≡ Grown node.rule (plants (tree_at (nodes ++ node ∷ [])) node.parts)
-unfolding tree_at tree_within
-pushed_tree nodes node h low =
-    let got : slice_get (nodes ++ node ∷ []) (length nodes) ≡ Some node = get_last nodes node in
-    ap (λ o. plant_some (tree_within (nodes ++ node ∷ []) (length nodes)) o) got
-    ∙ ap (λ ps. Grown node.rule ps) (plants_same (tree_within (nodes ++ node ∷ []) (length nodes)) (λ i. tree_within (nodes ++ node ∷ []) (suc i) i) (length nodes) node.parts low (λ i lt. tree_more (length nodes) i nodes (node ∷ []) h lt ∙ (same_within (suc i) (length nodes) (suc i) i nodes h (omega arith) lt (omega arith) ∙ sym (tree_more (suc i) i nodes (node ∷ []) h lt))))
-
-pub kept_tree : (nodes : List PyNode) (node : PyNode) (i : ℕ) → EachLower below_node nodes → i < length nodes → tree_at (nodes ++ node ∷ []) i ≡ tree_at nodes i
+tree_added : (old : List PyNode) (node : PyNode) → EachLower below_node (old ++ node ∷ []) → below_node node (length old) ≡ true → Added tree_at node_tree old (old ++ node ∷ []) (length old) node
 unfolding tree_at
-kept_tree nodes node i h lt = tree_more (suc i) i nodes (node ∷ []) h lt
+tree_added old node low h = added_by below_node NoTree node_tree tree_local old node low h
 
-pub hung_new : (r : Rule) (ps : List PyPart) (nodes new : List PyNode) (node : PyNode) (place : ℕ) → node ≡ record { rule = r; parts = ps } → EachLower below_node nodes → parts_below (length nodes) ps ≡ true → new ≡ nodes ++ node ∷ [] → place ≡ length nodes → IsSole ps None → IsHung r ps nodes new place
-hung_new r ps nodes new node place en h low e p sole =
-    subst (λ k. IsHung r ps nodes new k) (sym p) (subst (λ k. IsHung r ps nodes k (length nodes)) (sym e) (subst (λ k. IsHung r ps nodes (nodes ++ k ∷ []) (length nodes)) (sym en) record {
-      hangs = pushed_tree nodes (record { rule = r; parts = ps }) h low ∙ sym (sole (tree_at (nodes ++ record { rule = r; parts = ps } ∷ [])) r);
-      inside = omega (arith, length-append nodes (record { rule = r; parts = ps } ∷ []));
-      kept = λ i lt. kept_tree nodes (record { rule = r; parts = ps }) i h lt;
-      longer = omega (arith, length-append nodes (record { rule = r; parts = ps } ∷ []));
-    }))
+pub hung_new : (r : Rule) (ps : List PyPart) (nodes new : List PyNode) (place : ℕ) → EachLower below_node nodes → parts_below (length nodes) ps ≡ true → new ≡ nodes ++ record { rule = r; parts = ps } ∷ [] → place ≡ length nodes → IsSole ps None → IsHung r ps nodes new place
+hung_new r ps nodes new place low h e p sole =
+    let node : PyNode = record { rule = r; parts = ps } in
+    let added = tree_added nodes node (lower_more below_node nodes node low h) h in
+    subst (λ k. IsHung r ps nodes new k) (sym p) (subst (λ k. IsHung r ps nodes k (length nodes)) (sym e)
+    (record { grows = added.grows; within = added.within; is = added.is ∙ sym (sole (tree_at nodes) r) }))
 
 pub hung_sole : (r : Rule) (ps : List PyPart) (nodes : List PyNode) (id : Id PyNodes) → parts_below (length nodes) ps ≡ true → ps ≡ part.Node id ∷ [] → IsHung r ps nodes nodes id.place
 unfolding parts_below plants wrap
 hung_sole r ps nodes id low e =
     let one : parts_below (length nodes) (part.Node id ∷ []) ≡ true = subst (λ qs. parts_below (length nodes) qs ≡ true) e low in
     record {
-      hangs = sym (ap (λ qs. wrap r (plants (tree_at nodes) qs)) e);
-      inside = ltb-true _ _ (left_of (nat_lt id.place (length nodes)) true one);
-      kept = λ i lt. refl;
-      longer = omega arith;
+      grows = grows_not tree_at nodes;
+      within = ltb-true _ _ (left_of (nat_lt id.place (length nodes)) true one);
+      is = sym (ap (λ qs. wrap r (plants (tree_at nodes) qs)) e);
     }
 
 pub hung_by : (r : Rule) (ps : List PyPart) (nodes new : List PyNode) (result : Result (Id PyNodes) NoMemory) → EachLower below_node nodes → parts_below (length nodes) ps ≡ true → MatchResult result (λ id. (id.place ≡ length nodes) × (new ≡ nodes ++ record { rule = r; parts = ps } ∷ [])) (λ e. new ≡ nodes) → IsSole ps None → IsClosed r ps nodes new result
-hung_by r ps nodes new (Ok id) h low m sole = hung_new r ps nodes new (record { rule = r; parts = ps }) id.place refl h low m.1 m.0 sole
-hung_by r ps nodes new (Err e) h low m sole = tt
+hung_by r ps nodes new (Ok id) low h m sole = hung_new r ps nodes new id.place low h m.1 m.0 sole
+hung_by r ps nodes new (Err e) low h m sole = tt

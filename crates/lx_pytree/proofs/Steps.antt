@@ -1,5 +1,5 @@
 -- What each step does to the trees that reading on gives.
-use Rattle.std.proofs.Common.{ℕ, zero, suc, Bool, true, false, ◌≡◌, ◌<◌, ◌≤◌, ◌+◌, ◌-◌, ◌*◌, ◌&&◌, ◌++◌, ◌↔◌, nat_lt, nat_eq, List, [], ◌∷◌, length, reverse, map, drop, refl, sym, ap, ◌∙◌, subst, arith, slice_get, Option, Some, None, length-append}
+use Rattle.std.proofs.Common.{ℕ, true, false, ◌≡◌, ◌++◌, List, [], ◌∷◌, refl, sym, ap, ◌∙◌, subst, slice_get, Option, Some, None}
 use Rattle.lx_token.specs.declared.tokens.Token.{Token}
 use Rattle.lx_grammar.specs.declared.sign.Item.{Item}
 use Rattle.lx_grammar.specs.declared.sign.Sign.{Sign}
@@ -13,7 +13,6 @@ use Rattle.lx_grammar.specs.Ahead.{view}
 use Rattle.lx_grammar.specs.Derives.{Tree, Parts, end, token, child, joined, wrap, label, takes}
 use Rattle.lx_grammar.specs.Reads.{Reads, done, took, opened, inlined, skipped, given, ended, again}
 use Rattle.lx_pytree.specs.declared.machine.Step.{Step}
-use Rattle.lx_pytree.specs.declared.machine.Step.TheVariants as step
 use Rattle.lx_pytree.specs.declared.machine.Open.{Open}
 use Rattle.lx_pytree.specs.Trees.{plants}
 use Rattle.lx_pytree.specs.Machine.{upto, after, Gets, Ends}

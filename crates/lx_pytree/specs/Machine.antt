@@ -1,5 +1,5 @@
 -- The reader's state, and which trees it still has.
-use Rattle.std.specs.Prelude.{ℕ, Bool, true, false, List, [], ◌∷◌, ◌≡◌, ◌<◌, ◌≤◌, ◌+◌, ◌-◌, ◌*◌, ◌↔◌, ◌&&◌, length, reverse, drop, max, Option, Some, None, Result, Ok, Err, slice_get}
+use Rattle.std.specs.Prelude.{ℕ, Bool, true, List, [], ◌∷◌, ◌≡◌, ◌<◌, ◌+◌, ◌-◌, ◌*◌, ◌↔◌, ◌&&◌, length, reverse, drop, max, Option, Some, None, Result, Ok, Err, slice_get}
 use Rattle.lx_grammar.specs.declared.sign.Item.{Item}
 use Rattle.lx_grammar.specs.declared.grammar.Spot.{Spot}
 use Rattle.lx_grammar.specs.declared.grammar.Spot.TheVariants as spot
@@ -11,7 +11,6 @@ use Rattle.lx_grammar.specs.Ahead.{view}
 use Rattle.lx_grammar.specs.Grammar.{rules}
 use Rattle.lx_grammar.specs.Pick.{pick}
 use denote.Bor.{Bor}
-use Rattle.lx_pytree.specs.declared.tree.PyNode.{PyNode}
 use Rattle.lx_pytree.specs.declared.machine.Step.{Step}
 use Rattle.lx_pytree.specs.declared.machine.Step.TheVariants as step
 use Rattle.lx_pytree.specs.declared.machine.Open.{Open}

@@ -1,8 +1,8 @@
 -- The tree that hangs at a place of the arena.
-use Rattle.std.specs.Prelude.{ℕ, zero, suc, Bool, true, List, [], ◌∷◌, ◌≡◌, ◌<◌, ◌≤◌, length, Option, Some, None, Result, Ok, Err, slice_get, option_map}
+use Rattle.std.specs.Prelude.{ℕ, Bool, List, [], ◌∷◌, ◌≡◌, Option, Some, None, Result, Ok, Err}
 use Rattle.lx_text.specs.declared.lists.NoMemory.{NoMemory}
 use Rattle.lx_arena.specs.declared.Id.{Id}
-use Rattle.lx_arena.specs.Lower.{EachLower}
+use Rattle.lx_arena.specs.Folds.{fold_at, Hangs}
 use Rattle.lx_grammar.specs.declared.grammar.Rule.{Rule}
 use Rattle.lx_grammar.specs.Derives.{Tree, Grown, NoTree, Parts, end, token, child, wrap}
 use Rattle.lx_pytree.specs.declared.tree.PyNode.{PyNode}
@@ -17,18 +17,13 @@ plants f [] = end
 plants f (part.Token x ∷ ps) = token x (plants f ps)
 plants f (part.Node id ∷ ps) = child (f id.place) (plants f ps)
 
-abbrev pub plant_some : (ℕ → Tree) → Option PyNode → Tree
-plant_some f None = NoTree
-plant_some f (Some node) = Grown node.rule (plants f node.parts)
+-- the tree of a node
+abbrev pub node_tree : (ℕ → Tree) → PyNode → Tree
+node_tree f node = Grown node.rule (plants f node.parts)
 
--- at most so many levels of it
-unfoldable pub tree_within : List PyNode → ℕ → ℕ → Tree
-tree_within nodes zero place = NoTree
-tree_within nodes (suc n) place = plant_some (tree_within nodes n) (slice_get nodes place)
-
--- a node's children stand below it, so that its place bounds the levels
+-- the tree at a place, whose children are lower
 unfoldable pub tree_at : List PyNode → ℕ → Tree
-tree_at nodes place = tree_within nodes (suc place) place
+tree_at nodes place = fold_at NoTree node_tree nodes place
 
 abbrev pub below_node : PyNode → ℕ → Bool
 below_node node n = parts_below n node.parts
@@ -39,11 +34,8 @@ IsSole ps (Some id) = ps ≡ part.Node id ∷ []
 IsSole ps None = (f : ℕ → Tree) (r : Rule) → wrap r (plants f ps) ≡ Grown r (plants f ps)
 
 -- the node that hangs a rule's parts, and all trees that hung before
-pub record IsHung (r : Rule) (ps : List PyPart) (old new : List PyNode) (place : ℕ) : Type 0 where
-  pub hangs : tree_at new place ≡ wrap r (plants (tree_at new) ps)
-  pub inside : place < length new
-  pub kept : (i : ℕ) → i < length old → tree_at new i ≡ tree_at old i
-  pub longer : length old ≤ length new
+abbrev pub IsHung : Rule → List PyPart → List PyNode → List PyNode → ℕ → Type 0
+IsHung r ps old new place = Hangs tree_at old new place (wrap r (plants (tree_at old) ps))
 
 abbrev pub IsClosed : Rule → List PyPart → List PyNode → List PyNode → Result (Id PyNodes) NoMemory → Type 0
 IsClosed r ps old new (Ok id) = IsHung r ps old new id.place

@@ -224,7 +224,7 @@ fn lines_have_these_nodes(rt: HostRuntime) -> Result<(), Fail> {
 }
 
 #[test]
-fn files_have_a_tree_or_none(rt: HostRuntime) -> Result<(), Fail> {
+fn texts_have_a_tree_or_none(rt: HostRuntime) -> Result<(), Fail> {
     let table = [
         ("END", true),
         ("from a . b import * NL END", true),
@@ -274,12 +274,7 @@ fn files_have_a_tree_or_none(rt: HostRuntime) -> Result<(), Fail> {
     for (text, has) in table {
         assert_eq!(rt; answered(rt.alloc(), text)? == Answer::Tree, has, "{text}");
     }
-    Ok(())
-}
-
-#[test]
-fn lines_without_a_tree(rt: HostRuntime) -> Result<(), Fail> {
-    let table = [
+    let refused = [
         "a < b < c",
         "a == b != c",
         "a in b is None",
@@ -325,29 +320,11 @@ fn lines_without_a_tree(rt: HostRuntime) -> Result<(), Fail> {
         "( a for b in c )",
         "( , )",
     ];
-    for line in table {
+    for line in refused {
         let text = with_line(rt.alloc(), line)?;
         assert!(rt;
             answered(rt.alloc(), text.as_str())? != Answer::Tree,
             "{line}"
-        );
-    }
-    Ok(())
-}
-
-// The number and the line are those of a token.
-#[test]
-fn faults_stand_at_a_token(rt: HostRuntime) -> Result<(), Fail> {
-    let table = [
-        ("import a NL import b as c NL END", 5, 2),
-        ("class A ( B", 3, 1),
-        ("END END", 1, 1),
-    ];
-    for (text, number, line) in table {
-        assert_eq!(rt;
-            answered(rt.alloc(), text)?,
-            Answer::Syntax(number, line),
-            "{text}"
         );
     }
     Ok(())
@@ -468,8 +445,21 @@ fn described(alloc: Global, text: &str) -> Result<Answer, NoMemory> {
     answered_by(alloc, text, &found)
 }
 
+// The number and the line of a fault are those of a token.
 #[test]
 fn descriptions_are_read(rt: HostRuntime) -> Result<(), Fail> {
+    let table = [
+        ("import a NL import b as c NL END", 5, 2),
+        ("class A ( B", 3, 1),
+        ("END END", 1, 1),
+    ];
+    for (text, number, line) in table {
+        assert_eq!(rt;
+            answered(rt.alloc(), text)?,
+            Answer::Syntax(number, line),
+            "{text}"
+        );
+    }
     assert_eq!(rt; described(rt.alloc(), TIMER)?, Answer::Tree);
     for text in REFUSED {
         assert!(rt;

@@ -3,7 +3,7 @@
 ghost use Rattle.std.specs.Prelude.{true, ◌≡◌, ◌<◌, ◌≤◌, length, MatchOption, MatchResult, List, [], ◌∷◌};
 ghost use Rattle.lx_grammar.specs.Derives.{wrap};
 ghost use Rattle.lx_pytree.specs.Below.{parts_below};
-ghost use Rattle.lx_pytree.specs.Trees.{IsClosed, IsSole};
+ghost use Rattle.lx_pytree.specs.Trees.{IsClosed, IsSole, node_tree, tree_at};
 
 use lx_arena::{Arena, Id, Node};
 use lx_grammar::Rule;
@@ -45,6 +45,17 @@ impl Node for PyNode {
 pub struct Tree {
     pub nodes: Arena<PyNode>,
     pub root: Id<PyNodes>,
+}
+
+impl Tree {
+    /// The node at a place, whose parts hang in its tree from lower places.
+    pub fn node(&self, id: Id<PyNodes>) -> &PyNode
+        requires { id.place < length self.now.nodes }
+        ensures tree { tree_at self.now.nodes id.place ≡ node_tree (tree_at self.now.nodes) result.now }
+        ensures below { parts_below id.place result.now.parts ≡ true }
+    {
+        self.nodes.get(id)
+    }
 }
 
 // Whether all nodes among these parts stand below a place.

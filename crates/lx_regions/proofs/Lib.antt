@@ -5,6 +5,7 @@ pub mod Taken
 pub mod Law
 pub mod Origins
 pub mod Partly
+pub mod Reopened
 pub mod Turns
 pub mod Doubling
 pub mod Steps

@@ -41,6 +41,16 @@ is_open (Fixed o) = false
 is_open (Chosen o) = false
 is_open Open = true
 
+-- the place, unless it was chosen
+abbrev pub unchosen : Place → Place
+unchosen (Fixed o) = Fixed o
+unchosen (Chosen o) = Open
+unchosen Open = Open
+
+-- the region without the place that was chosen for it
+abbrev pub reopened : Spot → Spot
+reopened y = record y { place = unchosen y.place }
+
 -- the n bytes from o on share none with the m bytes of a region at the place; of chosen places only those
 -- of sizes that count are looked at
 abbrev pub leaves : (ℕ → Bool) → ℕ → ℕ → Place → ℕ → Bool

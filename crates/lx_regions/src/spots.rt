@@ -64,7 +64,7 @@ pub fn wanted(spots: &[Spot], cached: bool, size: u64) -> usize
 
 impl Spot {
     ghost use Rattle.std.specs.Prelude.{◌<◌, ◌↔◌, IsTrue};
-    ghost use Rattle.lx_regions.specs.Space.{is_open, origin_of};
+    ghost use Rattle.lx_regions.specs.Space.{is_open, origin_of, reopened};
     ghost use Rattle.lx_regions.specs.Free.{is_wanted};
     ghost use Rattle.lx_regions.specs.Least.{rank};
 
@@ -76,6 +76,17 @@ impl Spot {
             Place::Open => true,
             _ => false,
         }
+    }
+
+    // The region without the place that was chosen for it.
+    pub(crate) fn reopened(self) -> Spot
+        ensures { result ≡ reopened self }
+    {
+        let place = match self.place {
+            Place::Chosen(_) => Place::Open,
+            place => place,
+        };
+        Spot { place, ..self }
     }
 
     // Whether it is of this window and size and has no place yet.

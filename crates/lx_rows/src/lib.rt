@@ -1,13 +1,6 @@
-//! Worked rows: whole runs of the program's call over files in memory, its adapters over real files, and whole designs
-//! to the text of their modules.
+//! Worked rows: whole designs to the text of their modules, and the texts of all operators.
 #![tactic(auto)]
 
 #[cfg(test)]
-mod adapters;
-#[cfg(test)]
-mod builds;
-#[cfg(test)]
 mod designs;
 pub mod operators;
-#[cfg(test)]
-mod texts;

@@ -8,6 +8,10 @@ use Rattle.lx_text.specs.declared.faults.Kind.TheVariants as kind
 use Rattle.lx_text.specs.declared.faults.LimitKind.{LimitKind}
 use Rattle.lx_text.specs.declared.faults.LimitKind.TheVariants as limit
 
+-- the most bytes of a description, a trace or a script
+abbrev pub max_bytes : ℕ
+max_bytes = 1048576
+
 abbrev pub limit_name : LimitKind → List ℕ
 limit_name limit.Work = codes "Work"
 limit_name limit.Nodes = codes "Nodes"
@@ -113,7 +117,7 @@ values_text kind.NotYetBuilt = []
 values_text (kind.BadByte n) = blank_number n
 values_text kind.BadIndent = []
 values_text kind.NumberRange = []
-values_text kind.TooLong = codes " 1048576"
+values_text kind.TooLong = blank_number max_bytes
 values_text kind.TooDeep = codes " 64"
 values_text (kind.Syntax n) = blank_number n
 values_text kind.NoTop = []

@@ -7,6 +7,9 @@ use crate::lists::{List, NoMemory, Word};
 use crate::texts::Text;
 use std::alloc::Global;
 
+/// The most bytes of a description, a trace or a script.
+pub const MAX_BYTES: u64 = 1_048_576;
+
 /// What is limited. Each has a greatest number.
 #[derive(Clone, Copy, Debug)]
 pub enum LimitKind {
@@ -240,7 +243,7 @@ fn put_values(text: &mut Text, kind: &Kind) -> Result<(), NoMemory>
         | Kind::NoStates
         | Kind::TraceSyntax
         | Kind::TraceValue => Ok(()),
-        Kind::TooLong => text.word(b" 1048576"),
+        Kind::TooLong => put_number(text, MAX_BYTES),
         Kind::TooDeep => text.word(b" 64"),
         Kind::BadByte(number)
         | Kind::Syntax(number)

@@ -5,7 +5,7 @@ pub mod faults;
 pub mod lists;
 pub mod texts;
 
-pub use faults::{Fault, Kind, LimitKind, Refusal, fault_line};
+pub use faults::{Fault, Kind, LimitKind, MAX_BYTES, Refusal, fault_line};
 pub use lists::{List, NoMemory, Word};
 pub use texts::Text;
 

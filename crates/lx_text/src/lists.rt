@@ -1,9 +1,12 @@
 //! Lists and words over vectors: a contract sees them as the list of their items.
 
-ghost use Rattle.std.specs.Prelude.{◌≡◌, ◌++◌, ◌∷◌, [], ◌<◌, length, take, slice_get, Some, IfOk, OnOk, OnErr, IsTrue, ◌↔◌, option_copied};
+ghost use Rattle.std.specs.Prelude.{◌≡◌, ◌++◌, ◌∷◌, [], ◌<◌, length, take, slice_get, slice_set, Some, IfOk, OnOk, OnErr, MatchOption, IsTrue, ◌↔◌, option_copied};
+ghost use Rattle.std.specs.Str.{bytes_eq};
 
 use std::alloc::{AllocError, AllocFailed, Global};
+use std::hash::{Hash, Hasher};
 use std::marker::Model;
+use std::mem;
 
 /// Memory ran out. It is the one answer that any call which allocates may give.
 #[derive(Clone, Copy, Debug, PartialEq, Eq)]
@@ -101,6 +104,29 @@ impl<T: Drop> List<T> {
     {
         &self.items[place]
     }
+
+    /// The item at a place, where there is one.
+    pub fn get(&self, place: usize) -> Option<&T>
+        ensures { option_copied result ≡ slice_get self.now place }
+    {
+        self.items.get(place)
+    }
+
+    /// Puts an item in the place of another, and gives that one.
+    pub fn replace(&mut self, place: usize, item: T) -> T
+        requires { place < length self.old }
+        ensures before { slice_get self.old place ≡ Some result }
+        ensures after { self.new ≡ slice_set self.old place item }
+    {
+        mem::replace(&mut self.items[place], item)
+    }
+
+    /// Takes the last item off, where there is one.
+    pub fn pop(&mut self) -> Option<T>
+        ensures { MatchOption result ((self.old ≡ []) × (self.new ≡ [])) (λ item. self.old ≡ self.new ++ item ∷ []) }
+    {
+        self.items.pop()
+    }
 }
 
 /// A word of bytes, as a name.
@@ -115,6 +141,40 @@ impl Model for Word {
     ghost Value = { List ℕ };
 
     ghost view = { λ word. word.bytes.items };
+}
+
+impl PartialEq for Word {
+    ghost use Rattle.std.specs.Prelude.{nat_eq};
+    ghost use Rattle.std.specs.Cmp.Lexicographic.{pointwise, nat_list_eq_equiv};
+    ghost use Rattle.std.specs.Cmp.{partial_equiv_from_equiv};
+
+    ghost eq = { pointwise nat_eq };
+
+    ghost laws = { partial_equiv_from_equiv nat_list_eq_equiv };
+
+    fn eq(&self, other: &Word) -> bool {
+        self.as_bytes() == other.as_bytes()
+    }
+}
+
+impl Eq for Word {
+    ghost use Rattle.std.specs.Cmp.Lexicographic.{nat_list_eq_equiv};
+
+    ghost laws = { nat_list_eq_equiv };
+}
+
+impl Hash for Word {
+    ghost use Rattle.std.specs.Hash as fed;
+    ghost use Rattle.std.specs.Cmp.Rules.{hashing};
+    ghost use Rattle.std.proofs.Common.{rules};
+
+    ghost hash_input = { fed.slice fed.u8 };
+
+    ghost respects_eq = { Prim.search (hashing, rules) };
+
+    fn hash<H: Hasher>(&self, state: &mut H) {
+        self.as_bytes().hash(state);
+    }
 }
 
 impl Word {
@@ -148,6 +208,20 @@ impl Word {
         ensures { result.now ≡ self.now }
     {
         self.bytes.as_slice()
+    }
+
+    /// The word of a list's bytes. It takes no memory.
+    pub fn from_list(bytes: List<u8>) -> Word
+        ensures { result ≡ bytes }
+    {
+        Word { bytes: bytes.items }
+    }
+
+    /// Whether the word has these bytes.
+    pub fn is(&self, bytes: &[u8]) -> bool
+        ensures { result ≡ bytes_eq self.now bytes.now }
+    {
+        self.as_bytes() == bytes
     }
 
     /// The number of bytes.

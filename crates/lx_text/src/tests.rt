@@ -75,23 +75,17 @@ fn lines_of_regions(rt: HostRuntime) -> Result<(), Fail> {
 }
 
 #[test]
-fn numbers(rt: HostRuntime) -> Result<(), Fail> {
+fn numbers_and_lists(rt: HostRuntime) -> Result<(), Fail> {
     let mut text = Text::new(rt.alloc());
     text.dec(-5)?;
     text.count(7)?;
     text.hex(0xabc, 2)?;
     text.hex(0, 8)?;
     assert_eq!(rt; text.as_bytes(), b"-570xabc0x00000000".as_slice());
-    Ok(())
-}
-
-#[test]
-fn lists(rt: HostRuntime) -> Result<(), Fail> {
-    let mut list = List::new(rt.alloc());
-    list.push(7u8)?;
+    let mut list = text.into_list();
     list.push(9u8)?;
-    assert_eq!(rt; list.as_slice(), [7u8, 9].as_slice());
-    assert_eq!(rt; *list.at(1), 9);
+    assert_eq!(rt; list.as_slice(), b"-570xabc0x00000000\t".as_slice());
+    assert_eq!(rt; *list.at(1), 53);
     let named = Word::new(rt.alloc(), b"ab")?;
     assert_eq!(rt; named.copied(rt.alloc())?.as_bytes(), b"ab".as_slice());
     Ok(())

@@ -4,7 +4,7 @@ ghost use Rattle.std.specs.Prelude.{◌≡◌, ◌++◌, ◌∷◌, [], ◌<◌,
 ghost use Rattle.std.specs.Fmt.{signed_decimal, decimal};
 ghost use Rattle.lx_text.specs.Hex.{hex_text, zeros_text};
 
-use crate::lists::NoMemory;
+use crate::lists::{List, NoMemory};
 use itoa::Buffer;
 use std::alloc::Global;
 use std::marker::Model;
@@ -38,6 +38,13 @@ impl Text {
         ensures { result.now ≡ self.now }
     {
         self.bytes.as_slice()
+    }
+
+    /// The bytes as a list. It takes no memory.
+    pub fn into_list(self) -> List<u8>
+        ensures { result ≡ self }
+    {
+        List::from_vec(self.bytes)
     }
 
     /// Appends these bytes.

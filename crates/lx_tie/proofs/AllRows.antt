@@ -1,10 +1,8 @@
 -- All rows of the table of operators together.
-use Rattle.std.proofs.Common.{◌≡◌, ℕ, ℤ, pos, List, [], ◌∷◌, ◌*◌, ◌≤◌, false}
-use Rattle.lx_num.specs.declared.Shape.{Shape}
-use Rattle.lx_tables.specs.declared.operators.Mix.{Mix}
+use Rattle.std.proofs.Common.{pos, [], ◌*◌, false}
 use Rattle.lx_circuit.specs.Shapes.{bits_sum}
 use Rattle.lx_circuit.specs.Values.{cat_pattern, replicate_value}
-use Rattle.lx_vmeaning.specs.Meaning.{Valuation, Meaning, concat, repeat}
+use Rattle.lx_vmeaning.specs.Meaning.{concat, repeat}
 use Rattle.lx_tie.specs.Rows.{AllRowsStand, IsPartsLaw, IsCopiesLaw, reversed_onto}
 use Rattle.lx_tie.proofs.Leaves.{exact_spreads, spreads_drives}
 use Rattle.lx_tie.proofs.Parts.{exact_cat, exact_repeat}

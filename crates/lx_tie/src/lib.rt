@@ -2,6 +2,7 @@
 #![tactic(auto)]
 
 ghost use Rattle.lx_tie.specs.Rows.{AllRowsStand, IsBinaryLaw, IsChoiceLaw, IsUnaryLaw};
+ghost use Rattle.lx_tie.specs.Words.{IsWordLaw};
 
 /// The text of an operator with one operand gives a net the bits of the operator's value.
 pub fn unary_law()
@@ -22,4 +23,9 @@ pub fn choice_law()
 /// Each row of the table of operators does so, also where parts are joined or copied.
 pub fn rows_law()
     ensures { AllRowsStand }
+{}
+
+/// The text of a read of a memory stands for the word at its index, and for 0 past the end.
+pub fn word_law()
+    ensures { IsWordLaw }
 {}

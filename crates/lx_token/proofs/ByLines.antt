@@ -6,7 +6,8 @@ use Rattle.lx_text.specs.declared.faults.Refusal.{Refusal}
 use Rattle.lx_text.specs.declared.faults.Refusal.TheVariants as refusal
 use Rattle.lx_token.specs.Pieces.{pieces_of}
 use Rattle.lx_token.specs.Lines.{lines_of, before_lines, logical, first_tab}
-use Rattle.lx_token.specs.Tokens.{Nested, Cut, Line, indented, go_on, with_token, with_tokens, line_tokens, line_of, nested_line, ending_tokens, all_lines, last_newline, most_bytes, tokens_of, Tokenized}
+use Rattle.lx_text.specs.FaultLine.{max_bytes}
+use Rattle.lx_token.specs.Tokens.{Nested, Cut, Line, indented, go_on, with_token, with_tokens, line_tokens, line_of, nested_line, ending_tokens, all_lines, last_newline, tokens_of, Tokenized}
 use Rattle.lx_token.specs.Machine.{Gives, blank, tab_in, line_end, put_token, begin_line, take_piece, take_all, last_line, finished}
 use Rattle.lx_token.specs.declared.tokens.Token.{Token}
 use Rattle.lx_token.specs.declared.lines.Lines.{Lines}
@@ -123,19 +124,19 @@ not_more : (n m : ℕ) → m ≤ n → nat_lt n m ≡ false
 not_more n m h = grind (arith, nat_tests)
 
 -- a text that was read to its end
-pub read_whole : (source : List ℕ) (start m : Lines) (last : Token) (ts : List Token) → length source ≤ most_bytes → start ≡ machine [] [] 0 None false 1 → last ≡ last_newline source → take_all (pieces_of source) start ≡ Ok m → ts ≡ finished last m → tokens_of source ≡ Ok ts
+pub read_whole : (source : List ℕ) (start m : Lines) (last : Token) (ts : List Token) → length source ≤ max_bytes → start ≡ machine [] [] 0 None false 1 → last ≡ last_newline source → take_all (pieces_of source) start ≡ Ok m → ts ≡ finished last m → tokens_of source ≡ Ok ts
 unfolding tokens_of
 read_whole source start m last ts short begun end read e =
-    rw (not_more most_bytes (length source) short)
+    rw (not_more max_bytes (length source) short)
     (sym (one_pass (last_newline source) (pieces_of source))
     ∙ ap (λ r. go_on r (λ k. Ok (finished (last_newline source) k))) (ap (take_all (pieces_of source)) (sym begun) ∙ read)
     ∙ ap Ok (ap (λ t. finished t m) (sym end) ∙ sym e))
 
 -- a text in which there is a fault
-pub read_fault : (source : List ℕ) (start m : Lines) (stop : Refusal) → length source ≤ most_bytes → start ≡ machine [] [] 0 None false 1 → Gives {A = Unit {0}} (Err stop) m (take_all (pieces_of source) start) → Tokenized source (Err stop)
+pub read_fault : (source : List ℕ) (start m : Lines) (stop : Refusal) → length source ≤ max_bytes → start ≡ machine [] [] 0 None false 1 → Gives {A = Unit {0}} (Err stop) m (take_all (pieces_of source) start) → Tokenized source (Err stop)
 unfolding tokens_of
 read_fault source start m refusal.NoMemory short begun read = tt
 read_fault source start m (refusal.Fault f) short begun read =
-    rw (not_more most_bytes (length source) short)
+    rw (not_more max_bytes (length source) short)
     (sym (one_pass (last_newline source) (pieces_of source))
     ∙ ap (λ r. go_on r (λ k. Ok (finished (last_newline source) k))) (ap (take_all (pieces_of source)) (sym begun) ∙ read))

@@ -6,7 +6,8 @@ use Rattle.lx_text.specs.declared.faults.Kind.TheVariants as fault
 use Rattle.lx_token.specs.Lexemes.{lexeme_of, lexeme_len}
 use Rattle.lx_token.specs.Pieces.{formed, placed, cut, pieces_of, open_behind, line_ends, token_at, fault_at, most_open}
 use Rattle.lx_token.specs.Lines.{first_tab, lines_of}
-use Rattle.lx_token.specs.Tokens.{Nested, dedents, closed, nested, indented, innermost, levels_within, most_levels, go_on, ending_tokens, all_lines, last_newline, most_bytes, tokens_of}
+use Rattle.lx_text.specs.FaultLine.{max_bytes}
+use Rattle.lx_token.specs.Tokens.{Nested, dedents, closed, nested, indented, innermost, levels_within, most_levels, go_on, ending_tokens, all_lines, last_newline, tokens_of}
 use Rattle.lx_token.specs.Machine.{blank, tab_in, line_end, put_token, begin_line, take_piece, take_all, last_line, finished}
 use Rattle.lx_token.specs.Slices.{Makes, IsPiece, IsMark, AreSlices, TokensAreSlices}
 use Rattle.lx_token.specs.declared.tokens.Token.{Token}
@@ -136,7 +137,7 @@ finished-slices source last ts ls w t false n m h =
 
 pub tokens-slices : TokensAreSlices
 unfolding tokens_of pieces_of
-tokens-slices source tokens e = by_length (nat_lt most_bytes (length source)) e
+tokens-slices source tokens e = by_length (nat_lt max_bytes (length source)) e
   where
     by_read : (r : Result Lines Fault) → take_all (cut 0 0 0 1 source) (machine [] [] 0 None false 1) ≡ r → go_on r (λ m. Ok (finished (last_newline source) m)) ≡ Ok tokens → AreSlices source tokens
     by_read (Err f) read e = absurd (cc)

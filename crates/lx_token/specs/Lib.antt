@@ -9,3 +9,4 @@ pub mod Tokens
 pub mod Machine
 pub mod Order
 pub mod Slices
+pub mod Meanings

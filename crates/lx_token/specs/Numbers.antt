@@ -1,5 +1,5 @@
 -- Numbers as they are written: digits of a base, with single `_` between them.
-use Rattle.std.specs.Prelude.{ℕ, List, [], ◌∷◌, ◌==◌, ◌+◌, ◌*◌, ◌-◌, ◌^◌, nat_lt, take, drop, fold, Option, Some, None, if◌then◌else◌}
+use Rattle.std.specs.Prelude.{ℕ, ℤ, pos, nat_le, List, [], ◌∷◌, ◌==◌, ◌+◌, ◌*◌, ◌-◌, ◌^◌, nat_lt, take, drop, fold, Option, Some, None, if◌then◌else◌}
 use Rattle.lx_token.specs.Bytes.{is_digit_in, digit_value}
 use Rattle.lx_token.specs.declared.numbers.Number.{Number}
 
@@ -62,3 +62,7 @@ number_value bytes = digits_value (number bytes).base (digits_of (number bytes) 
 -- the greatest number that may be written
 abbrev pub greatest_number : ℕ
 greatest_number = 2 ^ 127 - 1
+
+-- the same as a whole number, where it may be written
+unfoldable pub whole_number : List ℕ → Option ℤ
+whole_number bytes = if nat_le (number_value bytes) greatest_number then Some (pos (number_value bytes)) else None

@@ -5,6 +5,7 @@ use Rattle.lx_text.specs.declared.faults.Fault.{Fault}
 use Rattle.lx_text.specs.declared.faults.Kind.TheVariants as fault
 use Rattle.lx_text.specs.declared.faults.Refusal.{Refusal}
 use Rattle.lx_text.specs.declared.faults.Refusal.TheVariants as refusal
+use Rattle.lx_text.specs.FaultLine.{max_bytes}
 use Rattle.lx_token.specs.Pieces.{fault_at, token_at, line_ends, pieces_of}
 use Rattle.lx_token.specs.Lines.{Logical, lines_of, logical}
 use Rattle.lx_token.specs.declared.tokens.Token.{Token}
@@ -115,13 +116,9 @@ all_lines last levels newline (pieces ∷ lines) =
 abbrev pub last_newline : List ℕ → Token
 last_newline source = token_at kind.Newline (length source) 0 (1 + line_ends source)
 
--- so many bytes may be in a text
-abbrev pub most_bytes : ℕ
-most_bytes = 1048576
-
 -- the tokens of a text, or the fault in it that stands first
 unfoldable pub tokens_of : List ℕ → Result (List Token) Fault
-tokens_of source = if nat_lt most_bytes (length source) then Err (fault_at 0 fault.TooLong) else all_lines (last_newline source) [] 1 (lines_of (pieces_of source))
+tokens_of source = if nat_lt max_bytes (length source) then Err (fault_at 0 fault.TooLong) else all_lines (last_newline source) [] 1 (lines_of (pieces_of source))
 
 -- want of memory aside, this is what the text gives
 abbrev pub Tokenized : List ℕ → Result (List Token) Refusal → Type 0

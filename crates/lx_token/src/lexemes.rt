@@ -9,7 +9,7 @@ use crate::bytes::{
     begins_line_end, begins_with_feed, begins_with_name_byte, comment_len, is_closing, is_digit,
     is_letter, is_opening, is_operator, is_operator_pair, name_len,
 };
-use crate::numbers::{fits, number_at};
+use crate::numbers::{number_at, value_of};
 use crate::quotes::{Ending, begins_with_two, end_of_text};
 use crate::tokens::TokenKind;
 use lx_tables::is_python_word;
@@ -53,7 +53,7 @@ fn number(bytes: &[u8]) -> Lexeme
 {
     let number = number_at(bytes);
     let length = number.prefix + number.digits;
-    if !fits(number.base, &bytes[number.prefix..length]) {
+    if value_of(number.base, &bytes[number.prefix..length]).is_none() {
         Lexeme::NumberRange
     } else if begins_with_name_byte(&bytes[length..]) {
         Lexeme::BadByte(length)

@@ -6,10 +6,13 @@ pub mod laws;
 mod levels;
 mod lexemes;
 mod lines;
+mod meanings;
 mod numbers;
 mod pieces;
 mod quotes;
 mod reader;
 pub mod tokens;
 
+pub use meanings::quoted_word;
+pub use numbers::whole_number;
 pub use tokens::{Token, TokenKind};

@@ -1,7 +1,7 @@
 //! Numbers as they are written.
 
-ghost use Rattle.std.specs.Prelude.{◌≡◌, ◌+◌, ◌≤◌, ◌<◌, ◌∷◌, ◌*◌, ◌^◌, length, IfSome, MatchOption, drop, nat_le};
-ghost use Rattle.lx_token.specs.Numbers.{more_digits, digits_behind, digits_len, named_base, zeros, zero_number, number, number_len, digits_value, greatest_number};
+ghost use Rattle.std.specs.Prelude.{◌≡◌, ◌+◌, ◌≤◌, ◌<◌, ◌∷◌, ◌*◌, ◌^◌, length, IfSome, MatchOption, drop};
+ghost use Rattle.lx_token.specs.Numbers.{more_digits, digits_behind, digits_len, named_base, zeros, zero_number, number, number_len, digits_value, greatest_number, whole_number};
 ghost use Rattle.lx_token.specs.Bytes.{digit_value};
 
 use crate::bytes::{digit_value, is_digit_in};
@@ -177,21 +177,36 @@ pub(crate) fn number_at(bytes: &[u8]) -> Number
     }
 }
 
-// Whether the number that these digits stand for may be written.
+// What these digits stand for, where that number may be written.
 #[tactic(auto, unfolding(crate::specs::Numbers::digits_value))]
-pub(crate) fn fits(base: u8, digits: &[u8]) -> bool
+pub(crate) fn value_of(base: u8, digits: &[u8]) -> Option<u128>
     requires { 0 < base }
-    ensures { result ≡ nat_le (digits_value base digits.now) greatest_number }
+    ensures { MatchOption result (greatest_number < digits_value base digits.now) (λ value. (value ≡ digits_value base digits.now) × (value ≤ greatest_number)) }
 {
     let mut value: u128 = 0;
     for byte in digits {
         if *byte != b'_' {
             let digit = digit_value(*byte) as u128;
             if value > (GREATEST - digit) / base as u128 {
-                return false;
+                return None;
             }
             value = value * base as u128 + digit;
         }
     }
-    true
+    Some(value)
+}
+
+/// The whole number that the text of a number stands for; None above `2^127 - 1`.
+#[tactic(auto, unfolding(crate::specs::Numbers::number_value, crate::specs::Numbers::whole_number, crate::specs::Numbers::digits_value))]
+pub fn whole_number(text: &[u8]) -> Option<i128>
+    ensures { result ≡ whole_number text.now }
+{
+    let number = number_at(text);
+    match value_of(
+        number.base,
+        &text[number.prefix..number.prefix + number.digits],
+    ) {
+        Some(value) => Some(value as i128),
+        None => None,
+    }
 }

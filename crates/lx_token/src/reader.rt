@@ -4,7 +4,8 @@ ghost use Rattle.std.specs.Prelude.{◌≡◌, ◌+◌, ◌<◌, ◌≤◌, leng
 ghost use Rattle.lx_token.specs.Lexemes.{lexeme_of, lexeme_len, IsWithin};
 ghost use Rattle.lx_token.specs.Pieces.{pieces_of};
 ghost use Rattle.lx_token.specs.Machine.{Gives, take_all};
-ghost use Rattle.lx_token.specs.Tokens.{most_bytes, last_newline};
+ghost use Rattle.lx_text.specs.FaultLine.{max_bytes};
+ghost use Rattle.lx_token.specs.Tokens.{last_newline};
 
 use crate::lexemes::{Lexeme, lexeme_at};
 use crate::lines::Lines;
@@ -14,7 +15,7 @@ use lx_text::Refusal;
 
 // Gives the pieces of a text to its lines.
 pub(crate) fn read_pieces(source: &[u8], lines: &mut Lines) -> Result<(), Refusal>
-    requires short { length source.now ≤ most_bytes }
+    requires short { length source.now ≤ max_bytes }
     requires fresh { lines.old.width ≡ 0 }
     ensures { Gives result lines.new (take_all (pieces_of source.now) lines.old) }
 {
@@ -39,7 +40,7 @@ pub(crate) fn read_pieces(source: &[u8], lines: &mut Lines) -> Result<(), Refusa
 
 // The Newline at the end of a text whose last line has no LF.
 pub(crate) fn last_newline(source: &[u8]) -> Token
-    requires { length source.now ≤ most_bytes }
+    requires { length source.now ≤ max_bytes }
     ensures { result ≡ last_newline source.now }
 {
     token_at(

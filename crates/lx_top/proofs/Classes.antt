@@ -1,8 +1,8 @@
 -- Whether a class stands in a file, by the arena and by the tree.
-use Rattle.std.proofs.Common.{◌≡◌, ℕ, ◌+◌, ◌<◌, Bool, true, false, ◌||◌, List, [], ◌∷◌, length, refl, sym, ap, ◌∙◌, arith, suc, slice_get, Option, Some, None, IsTrue}
+use Rattle.std.proofs.Common.{◌≡◌, ℕ, ◌<◌, ◌||◌, List, [], ◌∷◌, length, refl, sym, ap, ◌∙◌, arith, suc, slice_get, Option, Some, None, IsTrue}
 use Rattle.std.specs.List.{list_any}
 use Rattle.lx_arena.specs.Lower.{EachLower}
-use Rattle.lx_grammar.specs.Derives.{Tree, Grown, NoTree, Parts}
+use Rattle.lx_grammar.specs.Derives.{Tree}
 use Rattle.lx_pytree.specs.declared.tree.PyNode.{PyNode}
 use Rattle.lx_pytree.specs.declared.tree.PyPart.{PyPart}
 use Rattle.lx_pytree.specs.declared.tree.PyPart.TheVariants as part

@@ -1,5 +1,8 @@
+pub mod Answers
+pub mod Giving
 pub mod Complete
 pub mod Endings
 pub mod LineLemmas
-pub mod Words
+pub mod Edges
 pub mod Classes
+pub mod Syntax

@@ -1,29 +1,24 @@
 -- When a run must succeed.
-use Rattle.std.specs.Prelude.{◌≡◌, ℕ, ◌≤◌, List, Some, length, ◌⊎◌}
+use Rattle.std.specs.Prelude.{◌≡◌, ℕ, List, Option, Some, ◌⊎◌}
 use Rattle.lx_outside.specs.declared.calls.Pair.{Pair}
-use Rattle.lx_outside.specs.Calls.{Rose, file_of}
-use Rattle.lx_form.specs.declared.file.File.{File}
-use Rattle.lx_form.specs.Form.{Says}
-use Rattle.lx_top.specs.declared.commands.Command.TheVariants as command
+use Rattle.lx_outside.specs.Calls.{Rose}
+use Rattle.lx_text.specs.declared.faults.Fault.{Fault}
 use Rattle.lx_top.specs.declared.status.Status.{Status}
 use Rattle.lx_top.specs.declared.status.Status.TheVariants as status
-use Rattle.lx_top.specs.Commands.{command_of, word_at}
-use Rattle.lx_top.specs.Lines.{max_bytes}
-use Rattle.lx_top.specs.Judging.{IsReadable}
-use Rattle.lx_top.specs.Outcome.{World, Ends}
+use Rattle.lx_top.specs.Commands.{Asked, command_of}
+use Rattle.lx_top.specs.Next.{Wants, Gives}
+use Rattle.lx_top.specs.Outcome.{World, Comes, LacksFile, IsAtFault, Ends}
 
--- The words are a build, the source tells its files, the named one holds a description without a fault,
--- and no count of faults rose, but that of err.
+-- no file that the command comes to want is lacking, and the command comes to no fault
+pub record IsClean (told : Option (List Pair)) (c : Asked) : Type 0 where
+  pub found : (name : List ℕ) (limit : ℕ) → Comes told c (Wants name limit) → LacksFile told name → ⊥
+  pub clean : (file : List ℕ) (f : Fault) → IsAtFault told c file f → ⊥
+
+-- The words are a command without a fault, and no count of faults rose, but that of err.
 pub record IsSound (words : List (List ℕ)) (a b : World) : Type 0 where
-  pub command : command_of words ≡ Some command.Build
-  pub files : List Pair
-  pub told : a.files ≡ Some files
-  pub bytes : List ℕ
-  pub found : file_of files (word_at words 1) ≡ Some bytes
-  pub short : length bytes ≤ max_bytes
-  pub readable : IsReadable bytes
-  pub description : File
-  pub says : Says bytes description
+  pub asked : Asked
+  pub command : command_of words ≡ Some asked
+  pub files : IsClean a.files asked
   pub load : Rose a.load_faults b.load_faults → ⊥
   pub store : Rose a.store_faults b.store_faults → ⊥
   pub say : Rose a.say_faults b.say_faults → ⊥
@@ -31,3 +26,7 @@ pub record IsSound (words : List (List ℕ)) (a b : World) : Type 0 where
 -- Then the run is done, or memory ran out.
 abbrev pub IsCompletenessLaw : Type 0
 IsCompletenessLaw = (words : List (List ℕ)) (a b : World) (s : Status) → Ends words a b s → IsSound words a b → (s ≡ status.Done) ⊎ (s ≡ status.NoMemory)
+
+-- A command that comes to give, over files that are told, comes to no fault, and lacks no file.
+abbrev pub IsGivingLaw : Type 0
+IsGivingLaw = (files : List Pair) (c : Asked) (given : List Pair) (text : List ℕ) → Comes (Some files) c (Gives given text) → IsClean (Some files) c

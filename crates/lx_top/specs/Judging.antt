@@ -13,7 +13,7 @@ use Rattle.lx_grammar.specs.Signs.{item_of}
 use Rattle.lx_pytree.specs.declared.tree.PyNode.{PyNode}
 use Rattle.lx_pytree.specs.declared.tree.PyPart.{PyPart}
 use Rattle.lx_pytree.specs.declared.tree.PyPart.TheVariants as part
-use Rattle.lx_pytree.specs.Reading.{IsRefused}
+use Rattle.lx_pytree.specs.Reading.{IsAtToken}
 
 abbrev pub is_class_rule : Rule → Bool
 is_class_rule rule.Class = true
@@ -54,11 +54,12 @@ pub record IsReadable (bytes : List ℕ) : Type 0 where
   pub has : HasTree bytes tree
   pub class : has_class tree ≡ true
 
--- the tokens have no tree, and the fault tells some token
+-- the tokens have no tree, and the fault tells the number and the line of one of them
 pub record IsSyntaxFault (bytes : List ℕ) (f : Fault) : Type 0 where
   pub tokens : List Token
   pub cut : tokens_of bytes ≡ Ok tokens
-  pub refused : IsRefused bytes tokens f
+  pub none : (t : Tree) → IsTreeOf (map (item_of bytes) tokens) t → ⊥
+  pub place : IsAtToken tokens f
 
 -- the tree has no class, and the fault stands in line 0
 pub record HasNoTop (bytes : List ℕ) (f : Fault) : Type 0 where

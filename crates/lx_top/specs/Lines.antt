@@ -1,11 +1,11 @@
 -- The files that are stored, and the lines that are said.
 use Rattle.std.specs.Prelude.{ℕ, List, [], ◌∷◌, ◌++◌, codes}
+use Rattle.lx_text.specs.declared.faults.Fault.{Fault}
+use Rattle.lx_text.specs.declared.faults.Kind.TheVariants as kind
 use Rattle.lx_outside.specs.declared.calls.Pair.{Pair}
 use Rattle.lx_outside.specs.Calls.{pair}
-
--- the most bytes of a description, a trace or a script
-abbrev pub max_bytes : ℕ
-max_bytes = 1048576
+use Rattle.lx_top.specs.declared.lines.Line.{Line}
+use Rattle.lx_top.specs.declared.lines.Line.TheVariants as line
 
 abbrev pub top_v : List ℕ
 top_v = codes "top.v"
@@ -24,14 +24,23 @@ usage_line = codes "usage: lxb build SRC | map SRC | sim SRC TRACE | poke SRC SC
 abbrev pub cannot_read_line : List ℕ → List ℕ
 cannot_read_line name = name ++ codes ": cannot read\n"
 
-abbrev pub too_long_line : List ℕ → List ℕ
-too_long_line name = name ++ codes ":0: TooLong 1048576\n"
-
-abbrev pub not_built_line : List ℕ → List ℕ
-not_built_line name = name ++ codes ":0: NotYetBuilt\n"
-
 abbrev pub cannot_write_line : List ℕ → List ℕ
 cannot_write_line name = codes "cannot write " ++ (name ++ codes "\n")
 
 abbrev pub no_memory_line : List ℕ
 no_memory_line = codes "no memory\n"
+
+-- the fixed lines
+abbrev pub fixed_line : Line → List ℕ
+fixed_line line.Usage = usage_line
+fixed_line (line.CannotRead name) = cannot_read_line name.now
+fixed_line (line.CannotWrite name) = cannot_write_line name.now
+fixed_line line.NoMemory = no_memory_line
+
+-- a fault of a command that isn't built yet, or of a description that isn't
+abbrev pub not_built : Fault
+not_built = record { line = 0; kind = kind.NotYetBuilt }
+
+-- a fault of a file that is too long
+abbrev pub too_long : Fault
+too_long = record { line = 0; kind = kind.TooLong }

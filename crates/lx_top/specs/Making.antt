@@ -1,69 +1,49 @@
--- What making the texts of a build answers.
-use Rattle.std.specs.Prelude.{◌≡◌, ℕ, List, Option, Result, Ok, Err, ◌⊎◌}
+-- What making the texts of a command answers.
+use Rattle.std.specs.Prelude.{◌≡◌, ℕ, ◌≤◌, List, length, Option, Result, Ok, Err, ◌⊎◌}
 use Rattle.lx_outside.specs.declared.calls.Pair.{Pair}
 use Rattle.lx_outside.specs.Calls.{Rose}
-use Rattle.lx_form.specs.declared.file.File.{File}
-use Rattle.lx_form.specs.Form.{Says, HasNoForm}
-use Rattle.lx_translate.specs.Translation.{IsTextOf}
-use Rattle.lx_top.specs.declared.building.Product.{Product}
-use Rattle.lx_top.specs.declared.building.BuildFault.{BuildFault}
-use Rattle.lx_top.specs.declared.building.BuildFault.TheVariants as fault
+use Rattle.lx_text.specs.FaultLine.{line_text}
+use Rattle.lx_text.specs.FaultLine.{max_bytes}
+use Rattle.lx_top.specs.declared.making.Texts.{Texts}
+use Rattle.lx_top.specs.declared.making.Stop.{Stop}
+use Rattle.lx_top.specs.declared.making.Stop.TheVariants as stop
 use Rattle.lx_top.specs.declared.status.Status.{Status}
 use Rattle.lx_top.specs.declared.status.Status.TheVariants as status
-use Rattle.lx_top.specs.Lines.{summary_text, cannot_read_line, too_long_line, not_built_line, no_memory_line}
-use Rattle.lx_top.specs.Outcome.{LacksFile, IsBuildOf, IsLongFile, HasTextLine, HasNoBuild}
-use Rattle.lx_text.specs.declared.faults.Fault.{Fault}
-use Rattle.lx_text.specs.FaultLine.{line_text}
-use Rattle.lx_top.specs.Judging.{IsReadable, HasTextFault}
+use Rattle.lx_top.specs.Commands.{Asked}
+use Rattle.lx_top.specs.Lines.{cannot_read_line, no_memory_line, not_built, too_long}
+use Rattle.lx_top.specs.Meaning.{Meaning, Built}
+use Rattle.lx_top.specs.Next.{Wants, Refuses, Gives, Then}
+use Rattle.lx_top.specs.Outcome.{Comes, Has, LacksFile, IsLongFile, IsAtFault}
 
--- the text and the summary are those of the description that the bytes spell
-pub record IsProductOf (bytes : List ℕ) (p : Product) : Type 0 where
-  pub description : File
-  pub says : Says bytes description
-  pub text_of : IsTextOf description p.text
-  pub summary_is : p.summary ≡ summary_text description.top
+-- the refusal of a command of this word that isn't built yet
+abbrev pub IsNotBuilt : List ℕ → Stop → Type 0
+IsNotBuilt word (stop.Read _) = ⊥
+IsNotBuilt word (stop.Fault file f) = (file.now ≡ word) × (f ≡ not_built)
+IsNotBuilt word stop.NoMemory = ⊥
 
--- what making the texts of a readable description answers
-abbrev pub Translates : List ℕ → Result Product BuildFault → Type 0
-Translates bytes (Ok p) = IsProductOf bytes p
-Translates bytes (Err fault.NotYetBuilt) = HasNoForm bytes
-Translates bytes (Err fault.NoMemory) = Unit {0}
-Translates bytes (Err _) = ⊥
+-- What fetching a file answers, with the counts of the source before and after.
+abbrev pub Fetched : List ℕ → Option (List Pair) → ℕ → ℕ → Result (List ℕ) Stop → Type 0
+Fetched name told before now (Ok bytes) = Has told name bytes × (length bytes ≤ max_bytes)
+Fetched name told before now (Err (stop.Read file)) = (file.now ≡ name) × (Rose before now ⊎ LacksFile told name)
+Fetched name told before now (Err (stop.Fault file f)) = (file.now ≡ name) × IsLongFile told name max_bytes × (f ≡ too_long)
+Fetched name told before now (Err stop.NoMemory) = Unit {0}
 
--- the line of a fault, or want of memory
-abbrev pub TellsFault : List ℕ → Fault → BuildFault → Type 0
-TellsFault name f (fault.Text line) = line ≡ line_text name f
-TellsFault name f fault.NoMemory = Unit {0}
-TellsFault name f _ = ⊥
+-- What making the texts of a description answers.
+abbrev pub Describes : List ℕ → List ℕ → Result Texts Stop → Type 0
+Describes name bytes (Ok t) = Then name (Meaning bytes) Built (Gives t.files t.text)
+Describes name bytes (Err (stop.Read _)) = ⊥
+Describes name bytes (Err (stop.Fault file f)) = Then name (Meaning bytes) Built (Refuses file.now f)
+Describes name bytes (Err stop.NoMemory) = Unit {0}
 
--- what making the texts of a description of this name answers
-abbrev pub Describes : List ℕ → List ℕ → Result Product BuildFault → Type 0
-Describes name bytes (Ok p) = IsReadable bytes × IsProductOf bytes p
-Describes name bytes (Err (fault.Text line)) = (f : Fault) × HasTextFault bytes f × (line ≡ line_text name f)
-Describes name bytes (Err fault.NotYetBuilt) = IsReadable bytes × HasNoForm bytes
-Describes name bytes (Err fault.NoMemory) = Unit {0}
-Describes name bytes (Err fault.Read) = ⊥
-Describes name bytes (Err fault.TooLong) = ⊥
+-- What making the texts of a command answers, over the files that are told, with the counts of the source before and after.
+abbrev pub Makes : Asked → Option (List Pair) → ℕ → ℕ → Result Texts Stop → Type 0
+Makes c told before now (Ok t) = Comes told c (Gives t.files t.text)
+Makes c told before now (Err (stop.Read name)) = (limit : ℕ) × Comes told c (Wants name.now limit) × (Rose before now ⊎ LacksFile told name.now)
+Makes c told before now (Err (stop.Fault file f)) = IsAtFault told c file.now f
+Makes c told before now (Err stop.NoMemory) = Unit {0}
 
--- what making the texts of a build answers, with the counts of the source before and after
-abbrev pub Makes : Option (List Pair) → List ℕ → ℕ → ℕ → Result Product BuildFault → Type 0
-Makes told name before now (Ok p) = IsBuildOf told name p.text p.summary
-Makes told name before now (Err fault.Read) = Rose before now ⊎ LacksFile told name
-Makes told name before now (Err fault.TooLong) = IsLongFile told name
-Makes told name before now (Err (fault.Text line)) = HasTextLine told name line
-Makes told name before now (Err fault.NotYetBuilt) = HasNoBuild told name
-Makes told name before now (Err fault.NoMemory) = Unit {0}
-
-abbrev pub fault_line : List ℕ → BuildFault → List ℕ
-fault_line name fault.Read = cannot_read_line name
-fault_line name fault.TooLong = too_long_line name
-fault_line name (fault.Text line) = line
-fault_line name fault.NotYetBuilt = not_built_line name
-fault_line name fault.NoMemory = no_memory_line
-
-abbrev pub fault_status : BuildFault → Status
-fault_status fault.Read = status.ReadFault
-fault_status fault.TooLong = status.Refused
-fault_status (fault.Text line) = status.Refused
-fault_status fault.NotYetBuilt = status.Refused
-fault_status fault.NoMemory = status.NoMemory
+-- the status of a run that makes no texts, and its line; a fault's line may want memory
+abbrev pub IsReport : Stop → Status → List ℕ → Type 0
+IsReport (stop.Read name) s line = (s ≡ status.ReadFault) × (line ≡ cannot_read_line name.now)
+IsReport (stop.Fault file f) s line = ((s ≡ status.Refused) × (line ≡ line_text file.now f)) ⊎ ((s ≡ status.NoMemory) × (line ≡ no_memory_line))
+IsReport stop.NoMemory s line = (s ≡ status.NoMemory) × (line ≡ no_memory_line)

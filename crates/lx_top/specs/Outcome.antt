@@ -1,19 +1,15 @@
 -- What a run of the program leaves, by its status.
-use Rattle.std.specs.Prelude.{◌≡◌, ℕ, ◌≤◌, ◌<◌, List, ◌∷◌, ◌++◌, Option, Some, None, IfSome, length, codes, ◌⊎◌}
+use Rattle.std.specs.Prelude.{◌≡◌, ℕ, ◌≤◌, ◌<◌, List, [], ◌∷◌, ◌++◌, Option, Some, None, IfSome, length, codes, ◌⊎◌}
 use Rattle.lx_outside.specs.declared.calls.Pair.{Pair}
 use Rattle.lx_outside.specs.Calls.{Rose, file_of, Gains, SaysPart, StoresPart}
 use Rattle.lx_text.specs.declared.faults.Fault.{Fault}
 use Rattle.lx_text.specs.FaultLine.{line_text}
-use Rattle.lx_top.specs.Judging.{IsReadable, HasTextFault}
-use Rattle.lx_form.specs.declared.file.File.{File}
-use Rattle.lx_form.specs.Form.{Says, HasNoForm}
-use Rattle.lx_translate.specs.Translation.{IsTextOf}
-use Rattle.lx_top.specs.declared.commands.Command.{Command}
-use Rattle.lx_top.specs.declared.commands.Command.TheVariants as command
 use Rattle.lx_top.specs.declared.status.Status.{Status}
 use Rattle.lx_top.specs.declared.status.Status.TheVariants as status
-use Rattle.lx_top.specs.Commands.{command_of, word_at}
-use Rattle.lx_top.specs.Lines.{max_bytes, build_files, summary_text, usage_line, cannot_read_line, too_long_line, not_built_line, cannot_write_line, no_memory_line}
+use Rattle.lx_top.specs.Commands.{Asked, command_of}
+use Rattle.lx_top.specs.Lines.{usage_line, cannot_read_line, cannot_write_line, no_memory_line, too_long}
+use Rattle.lx_top.specs.Next.{Next, Wants, Refuses, Gives}
+use Rattle.lx_top.specs.Table.{Step}
 
 -- What the outside tells at one moment: files, stored pairs, what was said, and the counts of faults.
 pub record World : Type 0 where
@@ -26,6 +22,18 @@ pub record World : Type 0 where
   pub errors : Option (List ℕ)
   pub error_faults : ℕ
 
+abbrev pub world : Option (List Pair) → ℕ → Option (List Pair) → ℕ → Option (List ℕ) → ℕ → Option (List ℕ) → ℕ → World
+world files loads stored stores said says errors tells = record {
+  files = files;
+  load_faults = loads;
+  stored = stored;
+  store_faults = stores;
+  said = said;
+  say_faults = says;
+  errors = errors;
+  error_faults = tells;
+}
+
 -- where the source tells its files, the one of this name has these bytes
 abbrev pub Has : Option (List Pair) → List ℕ → List ℕ → Type 0
 Has told name bytes = IfSome told (λ files. file_of files name ≡ Some bytes)
@@ -35,39 +43,34 @@ abbrev pub LacksFile : Option (List Pair) → List ℕ → Type 0
 LacksFile None name = ⊥
 LacksFile (Some files) name = file_of files name ≡ None
 
--- The text and the summary are those of the description that the file holds.
-pub record IsBuildOf (told : Option (List Pair)) (name text summary : List ℕ) : Type 0 where
+-- the file is longer than it may be
+pub record IsLongFile (told : Option (List Pair)) (name : List ℕ) (limit : ℕ) : Type 0 where
   pub bytes : List ℕ
   pub loaded : Has told name bytes
-  pub short : length bytes ≤ max_bytes
-  pub readable : IsReadable bytes
-  pub description : File
-  pub says : Says bytes description
-  pub text_of : IsTextOf description text
-  pub summary_is : summary ≡ summary_text description.top
+  pub long : limit < length bytes
 
--- the file is longer than a description may be
-pub record IsLongFile (told : Option (List Pair)) (name : List ℕ) : Type 0 where
-  pub bytes : List ℕ
+-- behind the files that it had, the command wanted a file, which has these bytes
+pub record IsLoaded (told : Option (List Pair)) (c : Asked) (had : List (List ℕ)) (bytes : List ℕ) : Type 0 where
+  pub name : List ℕ
+  pub limit : ℕ
+  pub wanted : Step c had (Wants name limit)
   pub loaded : Has told name bytes
-  pub long : max_bytes < length bytes
+  pub short : length bytes ≤ limit
 
--- the text of the file has a fault, of which this is the line
-pub record HasTextLine (told : Option (List Pair)) (name line : List ℕ) : Type 0 where
-  pub bytes : List ℕ
-  pub loaded : Has told name bytes
-  pub short : length bytes ≤ max_bytes
-  pub fault : Fault
-  pub has : HasTextFault bytes fault
-  pub line_is : line ≡ line_text name fault
+-- each of these files was wanted behind those before it
+abbrev pub Reached : Option (List Pair) → Asked → List (List ℕ) → Type 0
+Reached told c [] = Unit {0}
+Reached told c (bytes ∷ had) = Reached told c had × IsLoaded told c had bytes
 
--- the file holds a text without a fault, and no description that is built yet
-pub record HasNoBuild (told : Option (List Pair)) (name : List ℕ) : Type 0 where
-  pub bytes : List ℕ
-  pub loaded : Has told name bytes
-  pub short : length bytes ≤ max_bytes
-  pub readable : IsReadable bytes
-  pub no_form : HasNoForm bytes
+-- the command comes to this, over the files that the source tells
+pub record Comes (told : Option (List Pair)) (c : Asked) (n : Next) : Type 0 where
+  pub had : List (List ℕ)
+  pub reached : Reached told c had
+  pub step : Step c had n
+
+-- the command comes to this fault of a file, or to a file that is too long
+abbrev pub IsAtFault : Option (List Pair) → Asked → List ℕ → Fault → Type 0
+IsAtFault told c file f = Comes told c (Refuses file f) ⊎ ((limit : ℕ) × Comes told c (Wants file limit) × IsLongFile told file limit × (f ≡ too_long))
 
 -- the whole line was said, or a prefix of it where saying it failed
 abbrev pub SaysLine : Option (List ℕ) → Option (List ℕ) → ℕ → ℕ → List ℕ → Type 0
@@ -84,10 +87,10 @@ pub record IsUntouched (a b : World) : Type 0 where
   pub said : b.said ≡ a.said
   pub say_faults : b.say_faults ≡ a.say_faults
 
--- all files are stored and the summary is said, and nothing else
-pub record IsDelivered (files : List Pair) (summary : List ℕ) (a b : World) : Type 0 where
+-- all files are stored and the text is said, and nothing else
+pub record IsDelivered (files : List Pair) (text : List ℕ) (a b : World) : Type 0 where
   pub stored : Gains a.stored b.stored files
-  pub said : Gains a.said b.said summary
+  pub said : Gains a.said b.said text
   pub errors : b.errors ≡ a.errors
   pub error_faults : b.error_faults ≡ a.error_faults
 
@@ -105,77 +108,101 @@ pub record StoreFailed (files : List Pair) (a b : World) : Type 0 where
   pub say_faults : b.say_faults ≡ a.say_faults
   pub line : Tells a b (cannot_write_line file.name)
 
--- A say failed: all files are stored whole, and a prefix of the summary was said.
-pub record SayFailed (files : List Pair) (summary : List ℕ) (a b : World) : Type 0 where
+-- A say failed: all files are stored whole, and a prefix of the text, which isn't empty, was said.
+pub record SayFailed (files : List Pair) (text : List ℕ) (a b : World) : Type 0 where
   pub stored : Gains a.stored b.stored files
-  pub said : SaysPart a.said b.said summary
+  pub some : text ≡ [] → ⊥
+  pub said : SaysPart a.said b.said text
   pub rose : Rose a.say_faults b.say_faults
   pub line : Tells a b (cannot_write_line (codes "output"))
 
--- what storing the files and saying the summary ends in
-abbrev pub Delivers : List Pair → List ℕ → World → World → Status → Type 0
-Delivers files summary a b status.Done = IsDelivered files summary a b
-Delivers files summary a b status.WriteFault = StoreFailed files a b ⊎ SayFailed files summary a b
-Delivers files summary a b _ = ⊥
+-- What con and err tell at one moment.
+pub record Said : Type 0 where
+  pub said : Option (List ℕ)
+  pub say_faults : ℕ
+  pub errors : Option (List ℕ)
+  pub error_faults : ℕ
 
--- The whole build.
-pub record IsDone (words : List (List ℕ)) (a b : World) : Type 0 where
-  pub command : command_of words ≡ Some command.Build
+abbrev pub told : Option (List ℕ) → ℕ → Option (List ℕ) → ℕ → Said
+told said says errors tells = record { said = said; say_faults = says; errors = errors; error_faults = tells }
+
+-- a text that isn't empty was said in part
+pub record IsSaidInPart (text : List ℕ) (a b : Said) : Type 0 where
+  pub some : text ≡ [] → ⊥
+  pub said : SaysPart a.said b.said text
+  pub rose : Rose a.say_faults b.say_faults
+  pub line : SaysLine a.errors b.errors a.error_faults b.error_faults (cannot_write_line (codes "output"))
+
+-- a text was said whole
+pub record IsSaid (text : List ℕ) (a b : Said) : Type 0 where
+  pub said : Gains a.said b.said text
+  pub errors : b.errors ≡ a.errors
+  pub error_faults : b.error_faults ≡ a.error_faults
+
+-- what saying a text ends in
+abbrev pub SaysText : List ℕ → Said → Said → Status → Type 0
+SaysText text a b status.Done = IsSaid text a b
+SaysText text a b status.WriteFault = IsSaidInPart text a b
+SaysText text a b _ = ⊥
+
+-- what storing the files and saying the text ends in
+abbrev pub Delivers : List Pair → List ℕ → World → World → Status → Type 0
+Delivers files text a b status.Done = IsDelivered files text a b
+Delivers files text a b status.WriteFault = StoreFailed files a b ⊎ SayFailed files text a b
+Delivers files text a b _ = ⊥
+
+-- The whole command.
+pub record IsDone (c : Asked) (a b : World) : Type 0 where
+  pub files : List Pair
   pub text : List ℕ
-  pub summary : List ℕ
-  pub build : IsBuildOf a.files (word_at words 1) text summary
-  pub delivered : IsDelivered (build_files text) summary a b
+  pub comes : Comes a.files c (Gives files text)
+  pub delivered : IsDelivered files text a b
+
+-- Storing or saying failed.
+pub record IsWriteFault (c : Asked) (a b : World) : Type 0 where
+  pub files : List Pair
+  pub text : List ℕ
+  pub comes : Comes a.files c (Gives files text)
+  pub cause : StoreFailed files a b ⊎ SayFailed files text a b
+
+-- The file that was wanted couldn't be read, or there is none.
+pub record IsReadFault (c : Asked) (a b : World) : Type 0 where
+  pub name : List ℕ
+  pub limit : ℕ
+  pub comes : Comes a.files c (Wants name limit)
+  pub cause : Rose a.load_faults b.load_faults ⊎ LacksFile a.files name
+  pub untouched : IsUntouched a b
+  pub line : Tells a b (cannot_read_line name)
+
+-- A file has a fault.
+pub record IsRefused (c : Asked) (a b : World) : Type 0 where
+  pub file : List ℕ
+  pub fault : Fault
+  pub cause : IsAtFault a.files c file fault
+  pub untouched : IsUntouched a b
+  pub line : Tells a b (line_text file fault)
 
 -- The words are no command.
-pub record IsUsage (words : List (List ℕ)) (a b : World) : Type 0 where
-  pub command : command_of words ≡ None
+pub record IsUsage (a b : World) : Type 0 where
   pub untouched : IsUntouched a b
   pub line : Tells a b usage_line
 
--- The file couldn't be read, or there is none.
-pub record IsReadFault (words : List (List ℕ)) (a b : World) : Type 0 where
-  pub command : command_of words ≡ Some command.Build
-  pub cause : Rose a.load_faults b.load_faults ⊎ LacksFile a.files (word_at words 1)
-  pub untouched : IsUntouched a b
-  pub line : Tells a b (cannot_read_line (word_at words 1))
-
--- the fault that the description has, and its line
-abbrev pub HasFault : Option (List Pair) → List ℕ → List ℕ → Type 0
-HasFault told name line =
-    ((line ≡ too_long_line name) × IsLongFile told name) ⊎ (HasTextLine told name line ⊎ ((line ≡ not_built_line name) × HasNoBuild told name))
-
--- a command that isn't built yet is refused by its name
-abbrev pub RefusedBy : Option Command → List (List ℕ) → World → List ℕ → Type 0
-RefusedBy None words a line = ⊥
-RefusedBy (Some command.Build) words a line = HasFault a.files (word_at words 1) line
-RefusedBy (Some _) words a line = line ≡ not_built_line (word_at words 0)
-
--- The description has a fault.
-pub record IsRefused (words : List (List ℕ)) (a b : World) : Type 0 where
-  pub line : List ℕ
-  pub cause : RefusedBy (command_of words) words a line
-  pub untouched : IsUntouched a b
-  pub told : Tells a b line
-
--- Storing or saying failed.
-pub record IsWriteFault (words : List (List ℕ)) (a b : World) : Type 0 where
-  pub command : command_of words ≡ Some command.Build
-  pub text : List ℕ
-  pub summary : List ℕ
-  pub build : IsBuildOf a.files (word_at words 1) text summary
-  pub cause : StoreFailed (build_files text) a b ⊎ SayFailed (build_files text) summary a b
-
 -- Memory ran out before anything was stored or said.
-pub record IsOutOfMemory (words : List (List ℕ)) (a b : World) : Type 0 where
-  pub command : command_of words ≡ Some command.Build
+pub record IsOutOfMemory (a b : World) : Type 0 where
   pub untouched : IsUntouched a b
   pub line : Tells a b no_memory_line
 
+-- what a run of a command leaves of the outside, or of words that are none
+abbrev pub EndsBy : Option Asked → World → World → Status → Type 0
+EndsBy None a b status.Usage = IsUsage a b
+EndsBy None a b _ = ⊥
+EndsBy (Some c) a b status.Done = IsDone c a b
+EndsBy (Some c) a b status.Refused = IsRefused c a b
+EndsBy (Some c) a b status.Usage = ⊥
+EndsBy (Some c) a b status.ReadFault = IsReadFault c a b
+EndsBy (Some c) a b status.WriteFault = IsWriteFault c a b
+EndsBy (Some c) a b status.NoMemory = IsOutOfMemory a b
+
 -- What a run over these words leaves of the outside, by its status.
 abbrev pub Ends : List (List ℕ) → World → World → Status → Type 0
-Ends words a b status.Done = IsDone words a b
-Ends words a b status.Refused = IsRefused words a b
-Ends words a b status.Usage = IsUsage words a b
-Ends words a b status.ReadFault = IsReadFault words a b
-Ends words a b status.WriteFault = IsWriteFault words a b
-Ends words a b status.NoMemory = IsOutOfMemory words a b
+Ends words a b s = EndsBy (command_of words) a b s

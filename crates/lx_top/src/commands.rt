@@ -1,71 +1,67 @@
 //! Words become commands.
 
 ghost use Rattle.std.specs.Prelude.{◌≡◌, ◌≤◌, ◌<◌, length};
-ghost use Rattle.lx_top.specs.Commands.{command_of, command_of_two, command_of_three, is_size, is_digit, word_at};
+ghost use Rattle.std.specs.Option.{option_map};
+ghost use Rattle.lx_top.specs.Commands.{asked_of, command_of, command_on, command_of_two, command_of_three, size_of, is_digit};
 
 use lx_text::Word;
 
-/// What the words ask for.
-#[derive(Clone, Copy, Debug)]
-pub enum Command {
+/// What the words ask for, with their names and their number.
+#[derive(Clone, Copy)]
+pub enum Command<'a> {
     /// `build SRC`: the files of the system are stored.
-    Build,
+    Build(&'a [u8]),
     /// `map SRC`: the registers and regions are listed.
-    Map,
+    Map(&'a [u8]),
     /// `sim SRC TRACE`: the trace's answers are said.
-    Sim,
+    Sim(&'a [u8], &'a [u8]),
     /// `poke SRC SCRIPT`: the script's answers are said.
-    Poke,
-    /// `gen N`: a description of a stated size is made, built and run.
-    Gen,
+    Poke(&'a [u8], &'a [u8]),
+    /// `gen N`: a description of a stated size, from 1 to 31, is made, built and run.
+    Gen(u8),
 }
 
 /// The command that the words are, if they are one. Words are compared byte by byte.
-pub fn read_command(words: &[Word]) -> Option<Command>
-    ensures { result ≡ command_of words.now }
+pub fn read_command(words: &[Word]) -> Option<Command<'_>>
+    ensures { option_map (λ c. asked_of c) result ≡ command_of words.now }
 {
-    match words.len() {
-        2 => read_two(word(words, 0), word(words, 1)),
-        3 => read_three(word(words, 0), word(words, 1), word(words, 2)),
+    match words {
+        [word, given] => read_two(word.as_bytes(), given.as_bytes()),
+        [word, first, second] => {
+            read_three(word.as_bytes(), first.as_bytes(), second.as_bytes())
+        }
         _ => None,
     }
 }
 
-/// The word at a place, and no bytes past the end.
-pub fn word(words: &[Word], place: usize) -> &[u8]
-    ensures { result.now ≡ word_at words.now place }
-{
-    match words.get(place) {
-        Some(word) => word.as_bytes(),
-        None => b"",
-    }
-}
-
-fn read_two(word: &[u8], given: &[u8]) -> Option<Command>
-    ensures { result ≡ command_of_two word.now given.now }
+fn read_two<'a>(word: &[u8], given: &'a [u8]) -> Option<Command<'a>>
+    ensures { option_map (λ c. asked_of c) result ≡ command_of_two word.now given.now }
 {
     if word == b"gen".as_slice() {
-        return if is_size_word(given) {
-            Some(Command::Gen)
-        } else {
-            None
-        };
+        let size = read_size(given)?;
+        return Some(Command::Gen(size));
     }
-    if given.is_empty() {
+    read_on(word, given)
+}
+
+fn read_on<'a>(word: &[u8], source: &'a [u8]) -> Option<Command<'a>>
+    ensures { option_map (λ c. asked_of c) result ≡ command_on word.now source.now }
+{
+    if source.is_empty() {
         return None;
     }
     if word == b"build".as_slice() {
-        return Some(Command::Build);
+        return Some(Command::Build(source));
     }
     if word == b"map".as_slice() {
-        Some(Command::Map)
+        Some(Command::Map(source))
     } else {
         None
     }
 }
 
-fn read_three(word: &[u8], first: &[u8], second: &[u8]) -> Option<Command>
-    ensures { result ≡ command_of_three word.now first.now second.now }
+fn read_three<'a>(word: &[u8], first: &'a [u8], second: &'a [u8]) -> Option<Command<'a>>
+    ensures { option_map (λ c. asked_of c) result ≡ command_of_three word.now first.now second.now }
 {
     if first.is_empty() {
         return None;
@@ -74,27 +70,38 @@ fn read_three(word: &[u8], first: &[u8], second: &[u8]) -> Option<Command>
         return None;
     }
     if word == b"sim".as_slice() {
-        return Some(Command::Sim);
+        return Some(Command::Sim(first, second));
     }
     if word == b"poke".as_slice() {
-        Some(Command::Poke)
+        Some(Command::Poke(first, second))
     } else {
         None
     }
 }
 
-// Whether a word is a number from 1 to 31 without a leading zero.
-fn is_size_word(word: &[u8]) -> bool
-    ensures { result ≡ is_size word.now }
+// The number from 1 to 31 that the word is, without a leading zero.
+fn read_size(word: &[u8]) -> Option<u8>
+    ensures { result ≡ size_of word.now }
 {
     match word {
-        [digit] => *digit >= b'1' && *digit <= b'9',
+        [digit] => {
+            if *digit >= b'1' && *digit <= b'9' {
+                Some(*digit - b'0')
+            } else {
+                None
+            }
+        }
         [tens, ones] => {
-            *tens >= b'1'
+            if *tens >= b'1'
                 && is_decimal(*ones)
                 && 10 * (*tens as u16 - 48) + (*ones as u16 - 48) <= 31
+            {
+                Some(10 * (*tens - b'0') + (*ones - b'0'))
+            } else {
+                None
+            }
         }
-        _ => false,
+        _ => None,
     }
 }
 

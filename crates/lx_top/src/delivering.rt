@@ -1,85 +1,78 @@
-//! A product is stored and its summary said, or a fault is told.
+//! Texts are stored and said, or what stopped them is told.
 
 ghost use Rattle.std.specs.Prelude.{◌≡◌, ℕ, Option, List};
 ghost use Rattle.lx_outside.specs.declared.calls.Pair.{Pair};
-ghost use Rattle.lx_top.specs.Lines.{build_files};
-ghost use Rattle.lx_top.specs.Outcome.{SaysLine, Delivers};
-ghost use Rattle.lx_top.specs.Making.{fault_line, fault_status};
+ghost use Rattle.lx_top.specs.Outcome.{SaysLine, Delivers, world, told, SaysText};
+ghost use Rattle.lx_top.specs.Making.{IsReport};
 
-use crate::building::{BuildFault, Product};
-use crate::saying::{say_line, say_pieces};
+use crate::lines::{Line, say_line, tell};
+use crate::making::{Stop, Texts};
 use crate::status::Status;
 use lx_outside::{Console, Sink};
+use lx_text::{NoMemory, fault_line};
+use std::alloc::Global;
 
-/// Stores the files of a build, and then says the summary. The first failure ends the run.
+/// Stores the files in their order, and then says the text where it isn't empty. The first failure ends the run.
 pub fn deliver<K: Sink, C: Console, E: Console>(
-    product: &Product,
+    texts: &Texts,
     out: &mut K,
     con: &mut C,
     err: &mut E,
 ) -> Status
-    ensures { (files later : Option (List Pair)) (before now : ℕ) → Delivers (build_files product.now.text) product.now.summary
-        (record {
-          files = files;
-          load_faults = before;
-          stored = K.stored out.old;
-          store_faults = K.faults out.old;
-          said = C.said con.old;
-          say_faults = C.faults con.old;
-          errors = E.said err.old;
-          error_faults = E.faults err.old;
-        })
-        (record {
-          files = later;
-          load_faults = now;
-          stored = K.stored out.new;
-          store_faults = K.faults out.new;
-          said = C.said con.new;
-          say_faults = C.faults con.new;
-          errors = E.said err.new;
-          error_faults = E.faults err.new;
-        }) result }
+    ensures { (files later : Option (List Pair)) (before now : ℕ) → Delivers texts.now.files texts.now.text
+        (world files before (K.stored out.old) (K.faults out.old) (C.said con.old) (C.faults con.old) (E.said err.old) (E.faults err.old))
+        (world later now (K.stored out.new) (K.faults out.new) (C.said con.new) (C.faults con.new) (E.said err.new) (E.faults err.new)) result }
 {
-    match out.store(b"top.v", product.text.as_bytes()) {
-        Ok(()) => {}
-        Err(_) => {
-            say_pieces(err, b"cannot write ", b"top.v\n");
-            return Status::WriteFault;
+    for file in texts.files.as_slice() {
+        match out.store(file.name.as_bytes(), file.bytes.as_slice()) {
+            Ok(()) => {}
+            Err(_) => {
+                tell(err, Line::CannotWrite(file.name.as_bytes()));
+                return Status::WriteFault;
+            }
         }
     }
-    match con.say(product.summary.as_bytes()) {
+    say_text(texts.text.as_bytes(), con, err)
+}
+
+// Says a text where it isn't empty.
+fn say_text<C: Console, E: Console>(text: &[u8], con: &mut C, err: &mut E) -> Status
+    ensures { SaysText text.now (told (C.said con.old) (C.faults con.old) (E.said err.old) (E.faults err.old))
+        (told (C.said con.new) (C.faults con.new) (E.said err.new) (E.faults err.new)) result }
+{
+    if text.is_empty() {
+        return Status::Done;
+    }
+    match con.say(text) {
         Ok(()) => Status::Done,
         Err(_) => {
-            say_pieces(err, b"cannot write ", b"output\n");
+            tell(err, Line::CannotWrite(b"output"));
             Status::WriteFault
         }
     }
 }
 
-/// Tells a fault of a build on err.
-pub fn report<E: Console>(name: &[u8], fault: BuildFault, err: &mut E) -> Status
-    ensures status { result ≡ fault_status fault }
-    ensures line { SaysLine (E.said err.old) (E.said err.new) (E.faults err.old) (E.faults err.new) (fault_line name.now fault) }
+/// Tells on err what stopped a run.
+pub fn report<E: Console>(alloc: Global, stop: &Stop<'_>, err: &mut E) -> Status
+    ensures { (line : List ℕ) × IsReport stop.now result line × SaysLine (E.said err.old) (E.said err.new) (E.faults err.old) (E.faults err.new) line }
 {
-    match fault {
-        BuildFault::Read => {
-            say_pieces(err, name, b": cannot read\n");
+    match stop {
+        Stop::Read(name) => {
+            tell(err, Line::CannotRead(name));
             Status::ReadFault
         }
-        BuildFault::TooLong => {
-            say_pieces(err, name, b":0: TooLong 1048576\n");
-            Status::Refused
-        }
-        BuildFault::Text(line) => {
-            say_line(err, line.as_bytes());
-            Status::Refused
-        }
-        BuildFault::NotYetBuilt => {
-            say_pieces(err, name, b":0: NotYetBuilt\n");
-            Status::Refused
-        }
-        BuildFault::NoMemory => {
-            say_line(err, b"no memory\n");
+        Stop::Fault(file, fault) => match fault_line(alloc, file, fault) {
+            Ok(line) => {
+                say_line(err, line.as_bytes());
+                Status::Refused
+            }
+            Err(NoMemory) => {
+                tell(err, Line::NoMemory);
+                Status::NoMemory
+            }
+        },
+        Stop::NoMemory => {
+            tell(err, Line::NoMemory);
             Status::NoMemory
         }
     }

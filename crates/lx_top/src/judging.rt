@@ -13,6 +13,7 @@ use lx_token::tokens::tokens;
 use std::alloc::Global;
 
 /// Whether the text has a tree with a class; or the first fault of its tokens, of its syntax, or that it has no class.
+#[tactic(auto, using(crate::proofs::Syntax::syntax_fault))]
 pub fn judge(alloc: Global, bytes: &[u8]) -> Result<(), Refusal>
     ensures { Judges bytes.now result }
 {

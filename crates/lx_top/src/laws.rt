@@ -1,10 +1,20 @@
-//! When a run must succeed.
+//! What holds of every run.
 
-ghost use Rattle.lx_top.specs.Completeness.{IsCompletenessLaw};
+ghost use Rattle.lx_top.specs.Completeness.{IsCompletenessLaw, IsGivingLaw};
+ghost use Rattle.lx_top.specs.Table.{IsOneAnswerLaw};
 
-/// Where the words are a build, the source tells the file, the file holds a description without a fault and no
-/// call failed, a run is done or out of memory. With sources, sinks and consoles whose count of faults is always
-/// 0, no call fails.
+/// Where the words are a command that comes to no fault and lacks no file, and no call failed, a run is done or out of
+/// memory. With sources, sinks and consoles whose count of faults is always 0, no call fails.
 pub fn completeness_law()
     ensures { IsCompletenessLaw }
+{}
+
+/// From the same files a command goes on in one way.
+pub fn one_answer_law()
+    ensures { IsOneAnswerLaw }
+{}
+
+/// A command that comes to give, over files that are told, comes to no fault, and lacks no file.
+pub fn giving_law()
+    ensures { IsGivingLaw }
 {}

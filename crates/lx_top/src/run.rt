@@ -1,20 +1,23 @@
 //! One run of the program.
 
-ghost use Rattle.std.specs.Prelude.{◌≡◌, Some};
-ghost use Rattle.lx_top.specs.Commands.{command_of};
-ghost use Rattle.lx_top.specs.Outcome.{Ends};
+ghost use Rattle.std.specs.Prelude.{◌≡◌, ℕ, List, [], Some};
+ghost use Rattle.lx_text.specs.declared.faults.Fault.{Fault};
+ghost use Rattle.lx_top.specs.Commands.{Asked, command_of};
+ghost use Rattle.lx_top.specs.Next.{Refuses};
+ghost use Rattle.lx_top.specs.Outcome.{Ends, world};
+ghost use Rattle.lx_top.specs.Table.{Step};
 
-use crate::building::make;
-use crate::commands::{Command, read_command, word};
+use crate::commands::read_command;
 use crate::delivering::{deliver, report};
-use crate::saying::{say_line, say_pieces};
+use crate::lines::{Line, tell};
+use crate::making::make;
 use crate::status::Status;
 use lx_outside::{Console, Sink, Source};
 use lx_text::Word;
 use std::alloc::Global;
 
 /// Runs the command that the words are: loads from `src`, stores into `out`, says its answer on `con`, and one line
-/// on `err` where it fails. The status tells how it ended.
+/// on `err` where it fails. All texts are made before the first is stored. The status tells how it ended.
 pub fn lxb<S: Source, K: Sink, C: Console, E: Console>(
     alloc: Global,
     words: &[Word],
@@ -23,79 +26,18 @@ pub fn lxb<S: Source, K: Sink, C: Console, E: Console>(
     con: &mut C,
     err: &mut E,
 ) -> Status
-    ensures { Ends words.now
-        (record {
-          files = S.files src.old;
-          load_faults = S.faults src.old;
-          stored = K.stored out.old;
-          store_faults = K.faults out.old;
-          said = C.said con.old;
-          say_faults = C.faults con.old;
-          errors = E.said err.old;
-          error_faults = E.faults err.old;
-        })
-        (record {
-          files = S.files src.new;
-          load_faults = S.faults src.new;
-          stored = K.stored out.new;
-          store_faults = K.faults out.new;
-          said = C.said con.new;
-          say_faults = C.faults con.new;
-          errors = E.said err.new;
-          error_faults = E.faults err.new;
-        }) result }
+    ensures ends { Ends words.now
+        (world (S.files src.old) (S.faults src.old) (K.stored out.old) (K.faults out.old) (C.said con.old) (C.faults con.old) (E.said err.old) (E.faults err.old))
+        (world (S.files src.new) (S.faults src.new) (K.stored out.new) (K.faults out.new) (C.said con.new) (C.faults con.new) (E.said err.new) (E.faults err.new))
+        result }
+    ensures quiet { (c : Asked) (file : List ℕ) (f : Fault) → command_of words.now ≡ Some c → Step c [] (Refuses file f) → src.new ≡ src.old }
 {
-    match read_command(words) {
-        None => {
-            say_line(
-                err,
-                b"usage: lxb build SRC | map SRC | sim SRC TRACE | poke SRC SCRIPT | gen N\n",
-            );
-            Status::Usage
-        }
-        Some(Command::Build) => build(alloc, words, src, out, con, err),
-        Some(Command::Map | Command::Sim | Command::Poke | Command::Gen) => {
-            say_pieces(err, word(words, 0), b":0: NotYetBuilt\n");
-            Status::Refused
-        }
-    }
-}
-
-// Builds the description that the words name: all texts are made before the first is stored.
-fn build<S: Source, K: Sink, C: Console, E: Console>(
-    alloc: Global,
-    words: &[Word],
-    src: &mut S,
-    out: &mut K,
-    con: &mut C,
-    err: &mut E,
-) -> Status
-    requires { command_of words.now ≡ Some Command.Build }
-    ensures { Ends words.now
-        (record {
-          files = S.files src.old;
-          load_faults = S.faults src.old;
-          stored = K.stored out.old;
-          store_faults = K.faults out.old;
-          said = C.said con.old;
-          say_faults = C.faults con.old;
-          errors = E.said err.old;
-          error_faults = E.faults err.old;
-        })
-        (record {
-          files = S.files src.new;
-          load_faults = S.faults src.new;
-          stored = K.stored out.new;
-          store_faults = K.faults out.new;
-          said = C.said con.new;
-          say_faults = C.faults con.new;
-          errors = E.said err.new;
-          error_faults = E.faults err.new;
-        }) result }
-{
-    let name = word(words, 1);
-    match make(alloc, name, src) {
-        Ok(product) => deliver(&product, out, con, err),
-        Err(fault) => report(name, fault, err),
+    let Some(command) = read_command(words) else {
+        tell(err, Line::Usage);
+        return Status::Usage;
+    };
+    match make(alloc, command, src) {
+        Ok(texts) => deliver(&texts, out, con, err),
+        Err(stop) => report(alloc, &stop, err),
     }
 }

@@ -1,6 +1,9 @@
 //! How a run ends.
 
-/// The exit statuses 0 to 5, in this order.
+ghost use Rattle.std.specs.Prelude.{◌≡◌};
+ghost use Rattle.lx_top.specs.Status.{number_of};
+
+/// How a run ended.
 #[derive(Clone, Copy, Debug, PartialEq, Eq)]
 pub enum Status {
     /// The command did what it says.
@@ -14,4 +17,20 @@ pub enum Status {
     /// A file couldn't be stored, or text couldn't be said.
     WriteFault,
     NoMemory,
+}
+
+impl Status {
+    /// The exit status, from 0 to 5.
+    pub fn number(self) -> u8
+        ensures { result ≡ number_of self }
+    {
+        match self {
+            Status::Done => 0,
+            Status::Refused => 1,
+            Status::Usage => 2,
+            Status::ReadFault => 3,
+            Status::WriteFault => 4,
+            Status::NoMemory => 5,
+        }
+    }
 }

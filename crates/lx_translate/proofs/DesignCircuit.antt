@@ -177,5 +177,5 @@ ios_from SS h k (s ∷ ss) t =
 pub circuit_is : (f : File) → are_signals f.signals ≡ true → are_lines f.signals f.lines ≡ true → design.circuit_of (design_of f) ≡ form.circuit_of f
 unfolding design_of design.circuit_of
 circuit_is f hs hl =
-    ap (λ (ms : List Made). record { signals = ms; comb = design.block (design_of f) (design_of f).comb; domains = []; ios = map signal_number (map the_signal (places_from 0 f.signals)) }) (signals_same f.signals)
-    ∙ ap₂ (λ (b : statement.Block) (xs : List ℕ). record { signals = map (λ s. signal_of s) f.signals; comb = b; domains = []; ios = xs }) (comb_is f hl) (ios_from f.signals hs 0 f.signals (tail_all f.signals))
+    ap (λ (ms : List Made). record { signals = ms; comb = design.block (design_of f) (design_of f).comb; domains = []; memories = []; ports = []; ios = map signal_number (map the_signal (places_from 0 f.signals)) }) (signals_same f.signals)
+    ∙ ap₂ (λ (b : statement.Block) (xs : List ℕ). record { signals = map (λ s. signal_of s) f.signals; comb = b; domains = []; memories = []; ports = []; ios = xs }) (comb_is f hl) (ios_from f.signals hs 0 f.signals (tail_all f.signals))

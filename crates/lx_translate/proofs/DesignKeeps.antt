@@ -19,7 +19,7 @@ use Rattle.lx_fhdl.specs.Stmts.{node_target, target_at}
 use Rattle.lx_fhdl.specs.Instance.{the_signal, the_expr, the_target, the_stmt}
 use Rattle.lx_fhdl.specs.Designs as design
 use Rattle.lx_fhdl.specs.Designs.{made_of, shapes}
-use Rattle.lx_fhdl.specs.Keeping.{EachOf, NamesBelow, TakesOperands, IsSignal, TargetStands, StmtStands, ListStands, Keeps, block_depth, is_identifier}
+use Rattle.lx_fhdl.specs.Keeping.{EachOf, NamesThere, TakesOperands, IsSignal, TargetStands, StmtStands, ListStands, ArenasKeep, Keeps, block_depth, is_identifier}
 use Rattle.lx_fhdl.specs.Lowered.{ArePlain, is_no_pick, IsLowered}
 use Rattle.lx_fhdl.specs.declared.exprs.Expr.{Expr}
 use Rattle.lx_fhdl.specs.declared.exprs.SigId.{SigId}
@@ -28,7 +28,7 @@ use Rattle.lx_fhdl.specs.declared.stmts.Target.TheVariants.{Whole}
 use Rattle.lx_fhdl.specs.declared.stmts.Stmt.{Stmt}
 use Rattle.lx_fhdl.specs.declared.stmts.Stmt.TheVariants.{Assign}
 use Rattle.lx_fhdl.specs.declared.design.Design.{Design}
-use Rattle.lx_fhdl.proofs.Arena.{node_there}
+use Rattle.lx_arena.proofs.Places.{node_there}
 use Rattle.lx_fhdl.proofs.Trees.{term_at-is}
 use Rattle.lx_fhdl.proofs.StmtTrees.{target_at-is}
 use Rattle.lx_emission.specs.Emission.{places_from}
@@ -130,7 +130,7 @@ parts ss k _ (OfSignal lt) = tt
 parts ss k _ (OfNot i p low) = tt
 parts ss k _ (OfBoth o i j p q low) = tt
 
-named : (ss : List Signal) (m k : ℕ) (x : Expr) → length ss ≡ m → NodeAt ss k x → NamesBelow m x
+named : (ss : List Signal) (m k : ℕ) (x : Expr) → length ss ≡ m → NodeAt ss k x → NamesThere m [] x
 named ss m k _ e (OfSignal lt) = omega arith
 named ss m k _ e (OfNot i p low) = tt
 named ss m k _ e (OfBoth o i j p q low) = tt
@@ -167,7 +167,7 @@ targets_long : (f : File) → length (design_of f).targets ≡ length f.lines
 unfolding design_of
 targets_long f = length-map f.lines (line_target f.signals)
 
-target_stands : (f : File) → are_lines f.signals f.lines ≡ true → (k : ℕ) (x : Target) → slice_get (design_of f).targets k ≡ Some x → TargetStands (design_of f) x
+target_stands : (f : File) → are_lines f.signals f.lines ≡ true → (k : ℕ) (x : Target) → slice_get (design_of f).targets k ≡ Some x → TargetStands (shapes (design_of f)) (length (design_of f).signals) (design_of f).exprs x
 target_stands f h k x e =
     let t = targets_are f h k x e in
     rw t.is (omega (arith, t.within, signals_long f))
@@ -203,12 +203,12 @@ rest_within ss k n (side.Not x) rest most = omega arith
 rest_within ss k n (side.Both x o y) rest most = omega arith
 
 stmt_stands : (d : Design) (SS : List Signal) (ls : List Line) → are_lines SS ls ≡ true → length SS ≤ length d.exprs → (j k : ℕ) → j + length ls ≤ length d.targets → k + length (operator_nodes SS ls) ≤ length d.exprs
-    → (i : ℕ) (x : Stmt) → slice_get (line_stmts SS j k ls) i ≡ Some x → StmtStands d x
+    → (i : ℕ) (x : Stmt) → slice_get (line_stmts SS j k ls) i ≡ Some x → StmtStands (length d.exprs) (length d.targets) x
 stmt_stands d SS [] h low j k t e i x is = absurd cc
 stmt_stands d SS (l ∷ ls) h low j k t e zero x is =
     let same : Assign (the_target j) (the_expr (side_place SS k l.side)) 0 ≡ x = cc in
-    let there : StmtStands d (Assign (the_target j) (the_expr (side_place SS k l.side)) 0) = (omega arith, side_within SS k (length d.exprs) l.side (operator_nodes SS ls) (line_fits SS l ls h).some low e) in
-    subst (StmtStands d) same there
+    let there : StmtStands (length d.exprs) (length d.targets) (Assign (the_target j) (the_expr (side_place SS k l.side)) 0) = (omega arith, side_within SS k (length d.exprs) l.side (operator_nodes SS ls) (line_fits SS l ls h).some low e) in
+    subst (StmtStands (length d.exprs) (length d.targets)) same there
 stmt_stands d SS (l ∷ ls) h low j k t e (suc i) x is =
     stmt_stands d SS ls (line_fits SS l ls h).others low (j + 1) (place_after k l.side) (omega arith) (rest_within SS k (length d.exprs) l.side (operator_nodes SS ls) e) i x is
 
@@ -216,7 +216,7 @@ stmts_are : (f : File) (k : ℕ) (x : Stmt) → slice_get (design_of f).stmts k 
 unfolding design_of
 stmts_are f k x e = e
 
-stmts_stand : (f : File) → are_lines f.signals f.lines ≡ true → (k : ℕ) (x : Stmt) → slice_get (design_of f).stmts k ≡ Some x → StmtStands (design_of f) x
+stmts_stand : (f : File) → are_lines f.signals f.lines ≡ true → (k : ℕ) (x : Stmt) → slice_get (design_of f).stmts k ≡ Some x → StmtStands (length (design_of f).exprs) (length (design_of f).targets) x
 stmts_stand f h k x e =
     let some = targets_long f in
     let all = exprs_long f in
@@ -250,20 +250,27 @@ ports_below : {T : Type 0} (n k : ℕ) (xs : List T) → k + length xs ≤ n →
 ports_below n k [] most = tt
 ports_below n k (x ∷ xs) most = (omega arith, ports_below n (k + 1) xs (omega arith))
 
-pub keeps : (f : File) → are_signals f.signals ≡ true → are_lines f.signals f.lines ≡ true → Keeps (design_of f)
-unfolding design_of
-keeps f hs hl = record {
+arenas_keep : (f : File) → are_signals f.signals ≡ true → are_lines f.signals f.lines ≡ true → ArenasKeep (shapes (design_of f)) (length (design_of f).signals) [] (design_of f).exprs (design_of f).targets (design_of f).stmts
+arenas_keep f hs hl = record {
   exprs_lower = exprs_lower f hl;
   targets_lower = targets_lower f;
   stmts_lower = stmts_lower f;
   shaped = shaped f hs hl;
   operands = λ k x e. operands f.signals k x (node_is f hl k x e);
   parts = λ k x e. parts f.signals k x (node_is f hl k x e);
-  named = λ k x e. named f.signals (length (map design_signal f.signals)) k x (sym (signals_long f)) (node_is f hl k x e);
-  signals = signals_keep f.signals hs;
+  named = λ k x e. named f.signals (length (design_of f).signals) k x (sym (signals_long f)) (node_is f hl k x e);
   targets = target_stands f hl;
   target_bits = target_fits f hs hl;
   stmts = stmts_stand f hl;
+}
+
+pub keeps : (f : File) → are_signals f.signals ≡ true → are_lines f.signals f.lines ≡ true → Keeps (design_of f)
+unfolding design_of
+keeps f hs hl = record {
+  arenas = arenas_keep f hs hl;
+  signals = signals_keep f.signals hs;
+  memories = tt;
+  ports = tt;
   comb = comb_stands f hl;
   sync = tt;
   domains = tt;

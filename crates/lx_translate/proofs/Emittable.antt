@@ -12,9 +12,11 @@ use Rattle.lx_fhdl.specs.Instance.{the_signal}
 use Rattle.lx_fhdl.specs.Designs as design
 use Rattle.lx_fhdl.specs.Designs.{signal_number}
 use Rattle.lx_fhdl.specs.Keeping.{is_distinct}
+use Rattle.lx_fhdl.specs.declared.exprs.Expr.{Expr}
+use Rattle.lx_fhdl.specs.declared.design.Design.{Design}
 use Rattle.lx_emission.specs.Naming.{node_name, is_among, NamesFit}
 use Rattle.lx_emission.specs.Emission.{places_from}
-use Rattle.lx_emission.specs.Emits.{are_once, none_is_reset, PortsFit, CanBeEmitted}
+use Rattle.lx_emission.specs.Emits.{are_once, none_is_reset, PortsFit, HasIndex, MemoriesFit, CanBeEmitted}
 use Rattle.lx_form.specs.declared.file.Signal.{Signal}
 use Rattle.lx_form.specs.declared.file.File.{File}
 use Rattle.lx_form.specs.Form.{are_signals, are_lines, width_of}
@@ -25,6 +27,7 @@ use Rattle.lx_translate.proofs.Facts.{signal_fits, other_letter}
 use Rattle.lx_translate.proofs.Order.{has_order}
 use Rattle.lx_translate.proofs.Words.{letter_name}
 use Rattle.lx_translate.proofs.DesignCircuit.{circuit_is}
+use Rattle.lx_translate.proofs.DesignNodes.{NodeAt, OfSignal, OfNot, OfBoth, node_is}
 use Rattle.lx_translate.proofs.DesignKeeps.{keeps, lowered}
 
 -- ---- names
@@ -59,7 +62,7 @@ no_node n (s ∷ ss) = neither (bytes_eq (node_name n) (signal_name s)) (is_amon
 names_fit : (f : File) → are_signals f.signals ≡ true → NamesFit (design_of f) (names_of f)
 unfolding design_of
 names_fit f h = record {
-  long = length-map f.signals signal_name ∙ sym (length-map f.signals design_signal);
+  long = omega (arith, length-map f.signals signal_name, length-map f.signals design_signal);
   lawful = names_lawful f.signals h;
   distinct = names_distinct f.signals h;
   clocks = λ k lt. absurd (omega arith);
@@ -87,6 +90,16 @@ ports_fit : (f : File) → PortsFit (design_of f)
 unfolding design_of design.circuit_of
 ports_fit f = record { once = ports_once 0 f.signals; resets = no_reset (map signal_number (map the_signal (places_from 0 f.signals))) }
 
+-- no memory is read
+no_fetch : (d : Design) (ss : List Signal) (k : ℕ) (x : Expr) → NodeAt ss k x → HasIndex d x
+no_fetch d ss k _ (OfSignal lt) = tt
+no_fetch d ss k _ (OfNot i p low) = tt
+no_fetch d ss k _ (OfBoth o i j p q low) = tt
+
+memories_fit : (f : File) → are_lines f.signals f.lines ≡ true → MemoriesFit (design_of f)
+unfolding design_of design.circuit_of
+memories_fit f h = record { show_nothing = tt; one_domain = tt; indices = λ k x e. no_fetch (design_of f) f.signals k x (node_is f h k x e) }
+
 pub can_be_emitted : (f : File) → are_signals f.signals ≡ true → are_lines f.signals f.lines ≡ true → CanBeEmitted (design_of f) (names_of f)
 can_be_emitted f hs hl = record {
   keeps = keeps f hs hl;
@@ -94,4 +107,5 @@ can_be_emitted f hs hl = record {
   order = subst (λ (c : Circuit). HasOrder c) (sym (circuit_is f hs hl)) (has_order f hl);
   named = names_fit f hs;
   ports = ports_fit f;
+  memories = memories_fit f hl;
 }

@@ -1,7 +1,10 @@
 -- The places of a description's signals, and an order of its reads.
 use Rattle.std.proofs.Common.{◌≡◌, ℕ, zero, suc, ◌+◌, ◌≤◌, ◌<◌, Bool, true, false, ◌&&◌, ◌||◌, cond, eqb, List, [], ◌∷◌, Some, slice_get, refl, sym, ap, subst, ◌∙◌, arith, inl, inr, ◌⊎◌, eq-eqb, ne_eqb, eqb-true}
-use Rattle.std.proofs.lemmas.Bool.{cases_eq, and_parts}
-use Rattle.lx_circuit.specs.Reads.{names, reads_block, HasOrder}
+use Rattle.std.proofs.lemmas.Bool.{cases_eq, and_parts, true≢false}
+use Rattle.lx_circuit.specs.Places.{Place, At, Word, Kept}
+use Rattle.lx_circuit.specs.Statements.{drives_block}
+use Rattle.lx_circuit.specs.Circuit.{Comb, Input, Undriven, made, is_among}
+use Rattle.lx_circuit.specs.Reads.{names, reads_block, reads_in, role_reads, HasOrder}
 use Rattle.lx_form.specs.declared.file.Side.{Side}
 use Rattle.lx_form.specs.declared.file.Side.TheVariants as side
 use Rattle.lx_form.specs.declared.file.Signal.{Signal}
@@ -110,7 +113,7 @@ or_true false y e = inr e
 operand_order : (ss : List Signal) (ls : List Line) (a y : ℕ) → are_lines ss ls ≡ true → 0 < width_of ss a → is_assigned a ls ≡ false → eqb (place_of ss a) y ≡ true → order_of ss ls y ≡ 0
 operand_order ss ls a y h some none e = subst (λ (z : ℕ). order_of ss ls z ≡ 0) (eqb-true (place_of ss a) y e) (unassigned_order ss ls a h some none)
 
-side_order : (ss : List Signal) (ls : List Line) (s : Side) (y : ℕ) → are_lines ss ls ≡ true → 0 < side_width ss s → reads_some s ls ≡ false → names y (term_of ss s) ≡ true → order_of ss ls y ≡ 0
+side_order : (ss : List Signal) (ls : List Line) (s : Side) (y : ℕ) → are_lines ss ls ≡ true → 0 < side_width ss s → reads_some s ls ≡ false → names (At y) (term_of ss s) ≡ true → order_of ss ls y ≡ 0
 side_order ss ls (side.Same x) y h some none e = operand_order ss ls x y h some none e
 side_order ss ls (side.Not x) y h some none e = operand_order ss ls x y h some none e
 side_order ss ls (side.Both x o z) y h some none e =
@@ -126,19 +129,62 @@ or_none : (b : Bool) → (b || false) ≡ b
 or_none true = refl
 or_none false = refl
 
-reads_fall : (ss : List Signal) (ls : List Line) (x y : ℕ) → are_lines ss ls ≡ true → reads_block x y (comb_of ss ls) ≡ true → order_of ss ls y < order_of ss ls x
+reads_fall : (ss : List Signal) (ls : List Line) (x y : ℕ) → are_lines ss ls ≡ true → reads_block x (At y) (comb_of ss ls) ≡ true → order_of ss ls y < order_of ss ls x
 reads_fall ss [] x y h e = absurd cc
 reads_fall ss (l ∷ ls) x y h e =
     let fits = line_fits ss l ls h in
-    elim (or_true (eqb (place_of ss l.target) x && (names y (term_of ss l.side) || false)) (reads_block x y (comb_of ss ls)) e) [
+    elim (or_true (eqb (place_of ss l.target) x && (names (At y) (term_of ss l.side) || false)) (reads_block x (At y) (comb_of ss ls)) e) [
       | inl p ↦
-          let q = and_parts (eqb (place_of ss l.target) x) (names y (term_of ss l.side) || false) p in
-          let named : names y (term_of ss l.side) ≡ true = sym (or_none (names y (term_of ss l.side))) ∙ q.1 in
+          let q = and_parts (eqb (place_of ss l.target) x) (names (At y) (term_of ss l.side) || false) p in
+          let named : names (At y) (term_of ss l.side) ≡ true = sym (or_none (names (At y) (term_of ss l.side))) ∙ q.1 in
           let low = side_order ss (l ∷ ls) l.side y h fits.some fits.unread named in
           let high : 1 ≤ order_of ss (l ∷ ls) x = rw q.0 (order_some (order_of ss ls x)) in
           omega (arith, low, high)
       | inr p ↦ order_rises (order_of ss ls y) (order_of ss ls x) (eqb (place_of ss l.target) y) (eqb (place_of ss l.target) x) (reads_fall ss ls x y fits.others p)
     ]
 
+-- nothing but signals is read
+
+no_word_named : (ss : List Signal) (m k : ℕ) (s : Side) → names (Word m k) (term_of ss s) ≡ false
+no_word_named ss m k (side.Same x) = refl
+no_word_named ss m k (side.Not x) = refl
+no_word_named ss m k (side.Both x o z) = refl
+
+no_kept_named : (ss : List Signal) (j : ℕ) (s : Side) → names (Kept j) (term_of ss s) ≡ false
+no_kept_named ss j (side.Same x) = refl
+no_kept_named ss j (side.Not x) = refl
+no_kept_named ss j (side.Both x o z) = refl
+
+none_read : (ss : List Signal) (ls : List Line) (x : ℕ) (p : Place) → ((s : Side) → names p (term_of ss s) ≡ false) → reads_block x p (comb_of ss ls) ≡ false
+none_read ss [] x p h = refl
+none_read ss (l ∷ ls) x p h = by_answer (eqb (place_of ss l.target) x) (names p (term_of ss l.side)) (h l.side) (none_read ss ls x p h)
+  where
+    by_answer : (b c : Bool) → c ≡ false → reads_block x p (comb_of ss ls) ≡ false → ((b && (c || false)) || reads_block x p (comb_of ss ls)) ≡ false
+    by_answer true c e f = ap (λ d. (d || false) || reads_block x p (comb_of ss ls)) e ∙ f
+    by_answer false c e f = f
+
+abbrev rank_of : File → Place → ℕ
+rank_of f (At y) = order_of f.signals f.lines y
+rank_of f (Word m k) = 0
+rank_of f (Kept j) = 0
+
+falls : (f : File) → are_lines f.signals f.lines ≡ true → (x : ℕ) (y : Place) → reads_block x y (comb_of f.signals f.lines) ≡ true → rank_of f y < rank_of f (At x)
+falls f h x (At y) e = reads_fall f.signals f.lines x y h e
+falls f h x (Word m k) e = absurd (true≢false (sym e ∙ none_read f.signals f.lines x (Word m k) (no_word_named f.signals m k)))
+falls f h x (Kept j) e = absurd (true≢false (sym e ∙ none_read f.signals f.lines x (Kept j) (no_kept_named f.signals j)))
+
+-- no port shows anything
+none_shown : (f : File) (x : ℕ) (y : Place) (a b c : Bool) → role_reads (circuit_of f) y (cond a Comb (cond b Undriven (cond c Input Undriven))) ≡ false
+none_shown f x y true b c = refl
+none_shown f x y false true c = refl
+none_shown f x y false false true = refl
+none_shown f x y false false false = refl
+
+reads_own : (f : File) (x : ℕ) (y : Place) → reads_in (circuit_of f) x y ≡ true → reads_block x y (comb_of f.signals f.lines) ≡ true
+reads_own f x y e =
+    let c = circuit_of f in
+    let none = none_shown f x y (drives_block x c.comb) (made c x).given (is_among x c.ios || false) in
+    sym (or_none (reads_block x y c.comb)) ∙ sym (ap (λ b. reads_block x y c.comb || b) none) ∙ e
+
 pub has_order : (f : File) → are_lines f.signals f.lines ≡ true → HasOrder (circuit_of f)
-has_order f h = record { rank = order_of f.signals f.lines; after = λ x y e. reads_fall f.signals f.lines x y h e }
+has_order f h = record { rank = rank_of f; after = λ x y e. falls f h x y (reads_own f x y e) }

@@ -1,26 +1,30 @@
 -- The module of a description gives what the description means.
-use Rattle.std.proofs.Common.{◌≡◌, List, refl, subst, sym}
+use Rattle.std.proofs.Common.{◌≡◌, ℕ, ◌+◌, List, [], length, refl, ap, subst, sym}
+use Rattle.std.proofs.lemmas.List.{length-map}
 use Rattle.std.specs.Prelude.{IsTrue}
 use Rattle.lx_circuit.specs.Circuit.{Circuit}
 use Rattle.lx_vtext.specs.Tree.{Name, VModule}
 use Rattle.lx_agree.specs.Agreement.{Naming, Agrees, HasPorts}
 use Rattle.lx_fhdl.specs.Designs as design
 use Rattle.lx_fhdl.specs.declared.design.Design.{Design}
-use Rattle.lx_emission.specs.Naming.{naming}
+use Rattle.lx_emission.specs.Naming.{naming, net}
 use Rattle.lx_write.specs.Writes.{CanBeWritten, Writes}
 use Rattle.lx_form.specs.declared.file.File.{File}
 use Rattle.lx_form.specs.Form.{is_form}
-use Rattle.lx_translate.specs.FormDesign.{design_of}
+use Rattle.lx_translate.specs.FormDesign.{design_of, design_signal}
 use Rattle.lx_translate.specs.FormNames.{names_of, naming_of}
 use Rattle.lx_translate.specs.Translation.{IsModuleOf, IsTranslationLaw}
 use Rattle.lx_translate.proofs.Facts.{form_fits}
 use Rattle.lx_translate.proofs.DesignCircuit.{circuit_is}
 use Rattle.lx_translate.proofs.Emittable.{can_be_emitted}
 
--- no domain has a clock
+-- no domain has a clock, and names of memories would stand behind those of signals
 naming_is : (f : File) → naming (design_of f) (names_of f) ≡ naming_of f
 unfolding design_of
-naming_is f = refl
+naming_is f = ap naming_over (length-map f.signals design_signal)
+  where
+    naming_over : ℕ → Naming
+    naming_over n = record { net = λ x. net (names_of f) x; clock = λ d. []; memory = λ m. net (names_of f) (n + m) }
 
 -- a module of the design is one of the description
 gives : (f : File) (m : VModule) → IsTrue (is_form f) → Writes (design_of f) (names_of f) m → IsModuleOf f m
@@ -34,11 +38,15 @@ gives f m form w =
       agrees = subst (λ (c : Circuit). Agrees c m (naming_of f)) same (subst (λ (n : Naming). Agrees (design.circuit_of (design_of f)) m n) (naming_is f) w.agrees);
     }
 
+no_memories : (f : File) → length (design_of f).memories ≡ 0
+unfolding design_of
+no_memories f = refl
+
 form_can_be_written : (f : File) → IsTrue (is_form f) → CanBeWritten (design_of f) (names_of f)
 form_can_be_written f form =
     let o = form_fits f form in
     let can = can_be_emitted f o.signals o.lines in
-    record { keeps = can.keeps; order = can.order; named = can.named; ports = can.ports }
+    record { keeps = can.keeps; order = can.order; named = can.named; ports = can.ports; no_memories = no_memories f }
 
 pub translation : IsTranslationLaw
 translation f form = record { can = form_can_be_written f form; gives = λ m w. gives f m form w }

@@ -1,14 +1,13 @@
--- One letter is a name, and no word of Verilog or of Python.
+-- One letter is a name, no word of Verilog, and an identifier.
 use Rattle.std.proofs.Common.{◌≡◌, ℕ, Bool, true, false, ◌&&◌, ◌||◌, not, eqb, List, [], ◌∷◌, length, refl, ap}
 use Rattle.std.specs.Prelude.{IsTrue, nat_le, nat_eq}
 use Rattle.std.specs.List.{list_all, list_any}
 use Rattle.std.specs.Str.{bytes_eq}
 use Rattle.std.proofs.lemmas.Bool.{and_parts, and_from}
 use Rattle.lx_tables.specs.VerilogWords.{verilog_words, is_verilog_word}
-use Rattle.lx_tables.specs.PythonWords.{python_words, is_python_word}
 use Rattle.lx_vtext.specs.Names as text
 use Rattle.lx_vtext.specs.Names.{is_name}
-use Rattle.lx_fhdl.specs.Keeping.{is_first, is_spelled, is_identifier}
+use Rattle.lx_fhdl.specs.Keeping.{is_first, is_identifier}
 use Rattle.lx_form.specs.Form.{is_lower}
 use Rattle.lx_translate.proofs.Bools.{and_false, neither}
 
@@ -18,10 +17,6 @@ is_long word = nat_le 2 (length word)
 verilog_words_are_long : list_all (λ w. is_long w) verilog_words ≡ true
 unfolding verilog_words
 verilog_words_are_long = refl
-
-python_words_are_long : list_all (λ w. is_long w) python_words ≡ true
-unfolding python_words
-python_words_are_long = refl
 
 other_word : (x : ℕ) (w : List ℕ) → is_long w ≡ true → bytes_eq (x ∷ []) w ≡ false
 other_word x [] h = refl
@@ -42,7 +37,4 @@ letter_name x h =
     (ap (λ b. not b) (none_of x verilog_words verilog_words_are_long))
 
 pub letter_identifier : (x : ℕ) → is_lower x ≡ true → is_identifier (x ∷ []) ≡ true
-letter_identifier x h =
-    and_from (is_spelled (x ∷ [])) (not (is_python_word (x ∷ [])))
-    (and_from (is_first x) true (ap (λ b. b || (nat_le 65 x && nat_le x 90 || nat_eq x 95)) h) refl)
-    (ap (λ b. not b) (none_of x python_words python_words_are_long))
+letter_identifier x h = and_from (is_first x) true (ap (λ b. b || (nat_le 65 x && nat_le x 90 || nat_eq x 95)) h) refl

@@ -36,13 +36,15 @@ comb_of ss (l ∷ ls) = Then (Assign (Whole (place_of ss l.target)) (term_of ss 
 
 -- an unsigned signal that resets to 0
 abbrev pub signal_of : made.Signal → Made
-signal_of s = record { shape = unsigned s.width; reset = pos 0; reset_less = false }
+signal_of s = record { shape = unsigned s.width; reset = pos 0; reset_less = false; given = false }
 
--- Unsigned signals, all of which are ports in their order, and the combinatorial lines. There is no clock domain.
+-- Unsigned signals, all of which are ports in their order, and the combinatorial lines. There is no clock domain and no memory.
 abbrev pub circuit_of : File → Circuit
 circuit_of f = record {
   signals = map (λ s. signal_of s) f.signals;
   comb = comb_of f.signals f.lines;
   domains = [];
+  memories = [];
+  ports = [];
   ios = map (λ s. place_of f.signals s.letter) f.signals;
 }

@@ -58,7 +58,7 @@ abbrev pub line_stmts : List form.Signal → ℕ → ℕ → List Line → List 
 line_stmts ss j k [] = []
 line_stmts ss j k (l ∷ ls) = Assign (the_target j) (the_expr (side_place ss k l.side)) 0 ∷ line_stmts ss (j + 1) (place_after k l.side) ls
 
--- All signals are ports in their order. There is no clock domain.
+-- All signals are ports in their order. There is no clock domain and no memory.
 unfoldable pub design_of : File → Design
 design_of f = record {
   exprs = signal_nodes f.signals ++ operator_nodes f.signals f.lines;
@@ -67,6 +67,8 @@ design_of f = record {
   signals = map design_signal f.signals;
   comb = map the_stmt (places_from 0 f.lines);
   sync = [];
+  memories = [];
+  ports = [];
   domains = [];
   ios = map the_signal (places_from 0 f.signals);
 }
@@ -81,6 +83,8 @@ design_without_lines ss = record {
   signals = map design_signal ss;
   comb = [];
   sync = [];
+  memories = [];
+  ports = [];
   domains = [];
   ios = map the_signal (places_from 0 ss);
 }

@@ -1,5 +1,5 @@
 -- The names of nets: each signal's is its letter.
-use Rattle.std.specs.Prelude.{List, [], ◌∷◌, map}
+use Rattle.std.specs.Prelude.{List, [], ◌∷◌, ◌+◌, length, map}
 use Rattle.lx_vtext.specs.Tree.{Name}
 use Rattle.lx_agree.specs.Agreement.{Naming}
 use Rattle.lx_emission.specs.Naming.{net}
@@ -13,6 +13,6 @@ signal_name s = s.letter ∷ []
 abbrev pub names_of : File → List Name
 names_of f = map signal_name f.signals
 
--- the net of each signal; there is no clock
+-- the net of each signal; there is no clock and no memory
 abbrev pub naming_of : File → Naming
-naming_of f = record { net = λ x. net (names_of f) x; clock = λ d. [] }
+naming_of f = record { net = λ x. net (names_of f) x; clock = λ d. []; memory = λ m. net (names_of f) (length f.signals + m) }

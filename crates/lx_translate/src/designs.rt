@@ -41,6 +41,8 @@ fn without_lines(alloc: Global, signals: &[Signal]) -> Result<Design, NoMemory>
         signals: plain_signals(alloc, signals)?,
         comb: List::new(alloc),
         sync: List::new(alloc),
+        memories: List::new(alloc),
+        ports: List::new(alloc),
         domains: List::new(alloc),
         ios: ports(alloc, signals)?,
     })

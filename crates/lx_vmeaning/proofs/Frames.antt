@@ -1,43 +1,36 @@
 -- What a net is hangs on what its driver reads alone.
-use Rattle.std.proofs.Common.{◌≡◌, ℕ, Bool, true, false, [], ◌∷◌, ◌||◌, ◌&&◌, ◌+◌, ◌-◌, ◌*◌, ◌^◌, ◌%◌, cond, refl, ◌∙◌, ap, max, not, nat_eq, ℤ, ◌/◌, eq-eqb}
+use Rattle.std.proofs.Common.{◌≡◌, ℕ, Bool, true, false, ◌∷◌, ◌||◌, ◌&&◌, ◌+◌, ◌-◌, ◌*◌, ◌^◌, ◌%◌, cond, refl, ◌∙◌, ap, max, not, nat_eq, ℤ, ◌/◌}
 use Rattle.std.specs.Str.{bytes_eq}
+use Rattle.std.proofs.lemmas.Bool.{or_left, or_right}
+use Rattle.std.proofs.lemmas.Slice.Eq.{bytes_eq-Decides}
 use Rattle.lx_num.specs.Ints.{read_bits}
 use Rattle.lx_vtext.specs.declared.operators.UnOp.{UnOp}
 use Rattle.lx_vtext.specs.declared.operators.UnOp.TheVariants.{Negate, Invert}
 use Rattle.lx_vtext.specs.declared.operators.BinOp.{BinOp}
 use Rattle.lx_vtext.specs.declared.operators.BinOp.TheVariants as op
-use Rattle.lx_vtext.specs.Tree.{Name, VExpr, VExprs, Net, Literal, Select, Word, Unary, Binary, Choose, Concat, Repeat, ToSigned, ToUnsigned, NoMore, More, VTarget, Whole, Part, WholeWord, PartWord, VStmt, Assign, When, VElse, NoElse, Else, VBlock, EndBlock, InBlock, VModule}
+use Rattle.lx_vtext.specs.Tree.{Name, VExpr, VExprs, Net, Literal, PartSelect, Word, Unary, Binary, Conditional, Concatenation, Replication, ToSigned, ToUnsigned, NoMore, More, VTarget, Whole, Part, WholeWord, PartWord, VStmt, Assign, When, VElse, NoElse, Else, VBlock, EndBlock, InBlock, VModule}
 use Rattle.lx_vmeaning.specs.Meaning.{Sizes, Valuation, Meaning, meaning, meanings, own, leaf, extend, compare, choose, concat_bits, width_sum, repeated, read_word, truth, unary, binary, assigned, holds, add_bits, sub_bits, mul_bits, and_bits, or_bits, xor_bits, less, less_equal, greater, greater_equal, equal, not_equal, fill_shift}
 use Rattle.lx_vmeaning.specs.Runs.{Driver, Outside, ByAssign, ByBlock, Clocked, Nothing, by_driver, sizes, new_pattern, run_stmt, run_else, run_block, set_bits}
-use Rattle.lx_vmeaning.specs.Cycle.{reads, some_reads, stmt_reads, else_reads, block_reads, driver_reads}
+use Rattle.lx_vmeaning.specs.Loops.{reads, some_reads, stmt_reads, else_reads, block_reads, driver_reads}
 
 -- two valuations agree on the nets where a test holds
 abbrev pub AgreeOn : Valuation → Valuation → (Name → Bool) → Type 0
 AgreeOn v u p = (k : Name) → p k ≡ true → v.nets k ≡ u.nets k
 
-or_true_left : (a b : Bool) → a ≡ true → (a || b) ≡ true
-or_true_left a b e = ap (λ z. z || b) e
-
-or_true_right : (a b : Bool) → b ≡ true → (a || b) ≡ true
-or_true_right true b e = refl
-or_true_right false b e = e
+-- what follows from each of two tests follows where one of them holds
+pub some_of : {P : Type 0} (a b : Bool) → (a || b) ≡ true → (a ≡ true → P) → (b ≡ true → P) → P
+some_of true b h p q = p refl
+some_of false b h p q = q h
 
 left_of : (v u : Valuation) (p q : Name → Bool) → AgreeOn v u (λ k. p k || q k) → AgreeOn v u p
-left_of v u p q h k e = h k (or_true_left (p k) (q k) e)
+left_of v u p q h k e = h k (or_left (p k) (q k) e)
 
 right_of : (v u : Valuation) (p q : Name → Bool) → AgreeOn v u (λ k. p k || q k) → AgreeOn v u q
-right_of v u p q h k e = h k (or_true_right (p k) (q k) e)
+right_of v u p q h k e = h k (or_right (p k) (q k) e)
 
 -- a name is itself
 pub same_name : (n : Name) → bytes_eq n n ≡ true
-same_name [] = refl
-same_name (b ∷ bs) = and_both (nat_eq b b) (bytes_eq bs bs) (same_byte b) (same_name bs)
-  where
-    same_byte : (b : ℕ) → nat_eq b b ≡ true
-    same_byte b = eq-eqb b b refl
-
-    and_both : (x y : Bool) → x ≡ true → y ≡ true → (x && y) ≡ true
-    and_both x y e f = ap (λ z. z && y) e ∙ f
+same_name n = (bytes_eq-Decides n n).1 refl
 
 -- the same bits in every context
 abbrev Same : Valuation → Valuation → Meaning → Type 0
@@ -87,23 +80,23 @@ mutual
   pub meaning_same : (d : Sizes) (v u : Valuation) (e : VExpr) → AgreeOn v u (λ k. reads k e) → v.words ≡ u.words → Same v u (meaning d e)
   meaning_same d v u (Net n) h m w t = ap (λ p. extend (d n).bits w t p) (h n (same_name n))
   meaning_same d v u (Literal bits signed value) h m w t = refl
-  meaning_same d v u (Select n hi lo) h m w t = ap (λ (p : ℕ). extend (hi - lo + 1) w t (p / 2 ^ lo % 2 ^ (hi - lo + 1))) (h n (same_name n))
+  meaning_same d v u (PartSelect n hi lo) h m w t = ap (λ (p : ℕ). extend (hi - lo + 1) w t (p / 2 ^ lo % 2 ^ (hi - lo + 1))) (h n (same_name n))
   meaning_same d v u (Word n index) h m w t =
       two_same (λ (f : Name → ℕ → ℕ) (k : ℕ). extend (d n).bits w t (read_word (d n).depth (f n) k)) v.words u.words (own (meaning d index) v) (own (meaning d index) u) m
       (meaning_same d v u index h m (meaning d index).width (meaning d index).signed)
   meaning_same d v u (Unary o a) h m w t = unary_same v u o (meaning d a) (meaning_same d v u a h m) w t
   meaning_same d v u (Binary a o b) h m w t =
       binary_same v u o (meaning d a) (meaning d b) (meaning_same d v u a (left_of v u (λ k. reads k a) (λ k. reads k b) h) m) (meaning_same d v u b (right_of v u (λ k. reads k a) (λ k. reads k b) h) m) w t
-  meaning_same d v u (Choose c a b) h m w t =
+  meaning_same d v u (Conditional c a b) h m w t =
       let g = right_of v u (λ k. reads k c) (λ k. reads k a || reads k b) h in
       choose_same v u (meaning d c) (meaning d a) (meaning d b) (meaning_same d v u c (left_of v u (λ k. reads k c) (λ k. reads k a || reads k b) h) m)
       (meaning_same d v u a (left_of v u (λ k. reads k a) (λ k. reads k b) g) m) (meaning_same d v u b (right_of v u (λ k. reads k a) (λ k. reads k b) g) m) w t
-  meaning_same d v u (Concat a as_) h m w t =
+  meaning_same d v u (Concatenation a as_) h m w t =
       ap (λ p. extend (width_sum (meaning d a ∷ meanings d as_)) w t p)
       (two_same (λ (x y : ℕ). x * 2 ^ width_sum (meanings d as_) + y) (own (meaning d a) v) (own (meaning d a) u) (concat_bits (meanings d as_) v) (concat_bits (meanings d as_) u)
       (meaning_same d v u a (left_of v u (λ k. reads k a) (λ k. some_reads k as_) h) m (meaning d a).width (meaning d a).signed)
       (parts_same d v u as_ (right_of v u (λ k. reads k a) (λ k. some_reads k as_) h) m))
-  meaning_same d v u (Repeat k a) h m w t =
+  meaning_same d v u (Replication k a) h m w t =
       ap (λ p. extend (k * (meaning d a).width) w t (repeated k (meaning d a).width p)) (meaning_same d v u a h m (meaning d a).width (meaning d a).signed)
   meaning_same d v u (ToSigned a) h m w t = ap (λ p. extend (meaning d a).width w t p) (meaning_same d v u a h m (meaning d a).width (meaning d a).signed)
   meaning_same d v u (ToUnsigned a) h m w t = ap (λ p. extend (meaning d a).width w t p) (meaning_same d v u a h m (meaning d a).width (meaning d a).signed)

@@ -1,3 +1,9 @@
+pub mod Bits
+pub mod Declared
+pub mod Fitting
 pub mod Frames
+pub mod Owns
+pub mod Ranks
 pub mod Settle
 pub mod Views
+pub mod Worked

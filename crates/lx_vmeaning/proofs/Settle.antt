@@ -5,20 +5,20 @@ use Rattle.std.proofs.Math.Path.{fun_ext}
 use Rattle.lx_vtext.specs.Tree.{Name, VModule}
 use Rattle.lx_vmeaning.specs.Meaning.{Valuation}
 use Rattle.lx_vmeaning.specs.Runs.{driver, by_driver, IsVSettled}
-use Rattle.lx_vmeaning.specs.Cycle.{HasNoLoop}
+use Rattle.lx_vmeaning.specs.Loops.{HasNoLoop}
 use Rattle.lx_vmeaning.specs.Settling.{VSettlesOnce}
 use Rattle.lx_vmeaning.proofs.Frames.{by_driver_same}
 
 -- patterns of nets beside the words of a state
-abbrev with_words : (Name → ℕ) → Valuation → Valuation
+abbrev pub with_words : (Name → ℕ) → Valuation → Valuation
 with_words nets state = record { nets = nets; words = state.words }
 
 -- the patterns after so many rounds
-abbrev rounds : VModule → Valuation → (Name → ℕ) → ℕ → Name → ℕ
+abbrev pub rounds : VModule → Valuation → (Name → ℕ) → ℕ → Name → ℕ
 rounds m state inputs zero = λ n. 0
 rounds m state inputs (suc i) = λ n. by_driver m state inputs (with_words (rounds m state inputs i) state) n (driver m n)
 
-abbrev round : VModule → Valuation → (Name → ℕ) → ℕ → Valuation
+abbrev pub round : VModule → Valuation → (Name → ℕ) → ℕ → Valuation
 round m state inputs i = with_words (rounds m state inputs i) state
 
 stable : (m : VModule) (o : HasNoLoop m) (state : Valuation) (inputs : Name → ℕ) (i : ℕ) (n : Name) → o.rank n < i → rounds m state inputs i n ≡ rounds m state inputs (suc i) n

@@ -4,7 +4,8 @@ use Rattle.std.proofs.Math.Path.{fun_ext}
 use Rattle.lx_vtext.specs.Tree.{Name, VModule}
 use Rattle.lx_vmeaning.specs.Meaning.{Valuation}
 use Rattle.lx_vmeaning.specs.Runs.{VStep, v_next, v_first, VViewFrom}
-use Rattle.lx_vmeaning.specs.Cycle.{HasNoLoop, HasCycleMeaning}
+use Rattle.lx_vmeaning.specs.Loops.{HasNoLoop}
+use Rattle.lx_vmeaning.specs.Cycle.{HasCycleMeaning}
 use Rattle.lx_vmeaning.specs.Settling.{IsSame, VSettlesOnce, VViewedOnce}
 use Rattle.lx_vmeaning.proofs.Settle.{settles_once}
 

@@ -1,5 +1,14 @@
+pub mod Blocks
 pub mod Cycle
+pub mod Driving
+pub mod Fitting
+pub mod Loops
 pub mod Meaning
+pub mod Naming
 pub mod Runs
+pub mod Samples
 pub mod Settling
+pub mod Widths
 pub mod Worked
+pub mod WorkedFaults
+pub mod WorkedRuns

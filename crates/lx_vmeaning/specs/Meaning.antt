@@ -8,7 +8,7 @@ use Rattle.lx_vtext.specs.declared.operators.UnOp.{UnOp}
 use Rattle.lx_vtext.specs.declared.operators.UnOp.TheVariants.{Negate, Invert}
 use Rattle.lx_vtext.specs.declared.operators.BinOp.{BinOp}
 use Rattle.lx_vtext.specs.declared.operators.BinOp.TheVariants as op
-use Rattle.lx_vtext.specs.Tree.{Name, VExpr, VExprs, Net, Literal, Select, Word, Unary, Binary, Choose, Concat, Repeat, ToSigned, ToUnsigned, NoMore, More}
+use Rattle.lx_vtext.specs.Tree.{Name, VExpr, VExprs, Net, Literal, PartSelect, Word, Unary, Binary, Conditional, Concatenation, Replication, ToSigned, ToUnsigned, NoMore, More}
 
 -- how a name is declared: a net, or a memory of so many words of so many bits
 pub record Declared : Type 0 where
@@ -187,13 +187,13 @@ abbrev mutual
   pub meaning : Sizes → VExpr → Meaning
   meaning d (Net n) = net (d n) n
   meaning d (Literal bits signed value) = literal bits signed value
-  meaning d (Select n hi lo) = select n hi lo
+  meaning d (PartSelect n hi lo) = select n hi lo
   meaning d (Word n index) = word (d n) n (meaning d index)
   meaning d (Unary o a) = unary o (meaning d a)
   meaning d (Binary a o b) = binary o (meaning d a) (meaning d b)
-  meaning d (Choose c a b) = choose (meaning d c) (meaning d a) (meaning d b)
-  meaning d (Concat first more) = concat (meaning d first ∷ meanings d more)
-  meaning d (Repeat k a) = repeat k (meaning d a)
+  meaning d (Conditional c a b) = choose (meaning d c) (meaning d a) (meaning d b)
+  meaning d (Concatenation first more) = concat (meaning d first ∷ meanings d more)
+  meaning d (Replication k a) = repeat k (meaning d a)
   meaning d (ToSigned a) = as_signed (meaning d a)
   meaning d (ToUnsigned a) = as_unsigned (meaning d a)
 

@@ -66,7 +66,7 @@ new_words d v _ e words = words
 -- the pattern of a block's target after its statements
 abbrev mutual
   pub run_stmt : Sizes → Valuation → VStmt → ℕ → ℕ
-  run_stmt d v (Assign t at_once e) old = new_pattern d v t e old
+  run_stmt d v (Assign t blocking e) old = new_pattern d v t e old
   run_stmt d v (When c so other) old = if holds d v c then run_block d v so old else run_else d v other old
 
   pub run_else : Sizes → Valuation → VElse → ℕ → ℕ
@@ -80,7 +80,7 @@ abbrev mutual
 -- the words of a block's memory after its statements
 abbrev mutual
   pub run_stmt_words : Sizes → Valuation → VStmt → (ℕ → ℕ) → ℕ → ℕ
-  run_stmt_words d v (Assign t at_once e) words = new_words d v t e words
+  run_stmt_words d v (Assign t blocking e) words = new_words d v t e words
   run_stmt_words d v (When c so other) words = if holds d v c then run_block_words d v so words else run_else_words d v other words
 
   pub run_else_words : Sizes → Valuation → VElse → (ℕ → ℕ) → ℕ → ℕ
@@ -100,7 +100,7 @@ target_name (PartWord n index hi lo) = n
 -- some statement assigns the name
 abbrev mutual
   pub sets_stmt : Name → VStmt → Bool
-  sets_stmt n (Assign t at_once e) = bytes_eq (target_name t) n
+  sets_stmt n (Assign t blocking e) = bytes_eq (target_name t) n
   sets_stmt n (When c so other) = sets_block n so || sets_else n other
 
   pub sets_else : Name → VElse → Bool

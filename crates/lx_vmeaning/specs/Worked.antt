@@ -3,7 +3,7 @@ use Rattle.std.specs.Prelude.{◌≡◌, ℕ, Bool, true, false, codes, if◌the
 use Rattle.std.specs.Str.{bytes_eq}
 use Rattle.lx_vtext.specs.declared.operators.UnOp.TheVariants.{Negate, Invert}
 use Rattle.lx_vtext.specs.declared.operators.BinOp.TheVariants as op
-use Rattle.lx_vtext.specs.Tree.{Name, VExpr, Net, Literal, Select, Word, Unary, Binary, Choose, Concat, Repeat, ToSigned, ToUnsigned, NoMore, More}
+use Rattle.lx_vtext.specs.Tree.{Name, VExpr, Net, Literal, PartSelect, Word, Unary, Binary, Conditional, Concatenation, Replication, ToSigned, ToUnsigned, NoMore, More}
 use Rattle.lx_vmeaning.specs.Meaning.{Sizes, Valuation, meaning, own, assigned}
 
 abbrev pub is_s : Name → Bool
@@ -72,9 +72,9 @@ pub record AreWorked : Type 0 where
   pub extended_by_zeros : assigned sizes (patterns 8 0) 8 (Binary s op.Add u) ≡ 8
   pub extended_by_sign : assigned sizes (patterns 8 0) 8 (Binary s op.Add s) ≡ 240
   -- a select is unsigned, and so are concatenations
-  pub selected : assigned sizes (patterns 8 0) 8 (Select (codes "s") 3 2) ≡ 2
-  pub joined : alone 8 3 (Concat s (More u NoMore)) ≡ 131
-  pub copied : alone 0 5 (Repeat 2 u) ≡ 85
+  pub selected : assigned sizes (patterns 8 0) 8 (PartSelect (codes "s") 3 2) ≡ 2
+  pub joined : alone 8 3 (Concatenation s (More u NoMore)) ≡ 131
+  pub copied : alone 0 5 (Replication 2 u) ≡ 85
   pub retyped : assigned sizes (patterns 0 8) 8 (ToSigned u) ≡ 248
   pub untyped : assigned sizes (patterns 8 0) 8 (ToUnsigned s) ≡ 8
   pub negated_wider : assigned sizes (patterns 0 1) 8 (Unary Negate u) ≡ 255
@@ -82,10 +82,10 @@ pub record AreWorked : Type 0 where
   -- an amount is read as unsigned: 1111 is fifteen places
   pub amount : in_context 15 1 16 false (Binary u op.ShiftLeft s) ≡ 32768
   -- branches: signed only where both are
-  pub chosen : assigned sizes (patterns 8 0) 8 (Choose one s u) ≡ 8
-  pub chosen_signed : assigned sizes (patterns 8 0) 8 (Choose one s s) ≡ 248
+  pub chosen : assigned sizes (patterns 8 0) 8 (Conditional one s u) ≡ 8
+  pub chosen_signed : assigned sizes (patterns 8 0) 8 (Conditional one s s) ≡ 248
   -- any condition but 0 holds
-  pub chosen_by_two : alone 8 2 (Choose u s one) ≡ 8
-  pub chosen_by_none : alone 8 0 (Choose u s one) ≡ 1
+  pub chosen_by_two : alone 8 2 (Conditional u s one) ≡ 8
+  pub chosen_by_none : alone 8 0 (Conditional u s one) ≡ 1
   pub word : alone 0 2 (Word (codes "m") u) ≡ 9
   pub past_the_end : alone 0 3 (Word (codes "m") u) ≡ 0

@@ -12,7 +12,7 @@ use lx_vtree::{ExprId, VExpr, expr};
 
 /// The text of the expression at a place.
 #[cycle(put)]
-pub fn put_expr(out: &mut Text, exprs: &Arena<VExpr>, id: ExprId) -> Result<(), NoMemory>
+pub(crate) fn put_expr(out: &mut Text, exprs: &Arena<VExpr>, id: ExprId) -> Result<(), NoMemory>
     requires { id.place < length exprs.now }
     ensures { OnOk result (out.new ≡ out.old ++ expr_text (tree_at exprs.now id.place)) }
 {
@@ -23,7 +23,7 @@ pub fn put_expr(out: &mut Text, exprs: &Arena<VExpr>, id: ExprId) -> Result<(), 
         VExpr::Literal(value) => {
             literal(out, value)?;
         }
-        VExpr::Select { name, hi, lo } => {
+        VExpr::PartSelect { name, hi, lo } => {
             out.word(name.as_bytes())?;
             range(out, *hi, *lo)?;
         }
@@ -48,7 +48,7 @@ pub fn put_expr(out: &mut Text, exprs: &Arena<VExpr>, id: ExprId) -> Result<(), 
             put_expr(out, exprs, *right)?;
             out.word(b")")?;
         }
-        VExpr::Choose { cond, so, other } => {
+        VExpr::Conditional { cond, so, other } => {
             out.word(b"(")?;
             put_expr(out, exprs, *cond)?;
             out.word(b" ? ")?;
@@ -57,13 +57,13 @@ pub fn put_expr(out: &mut Text, exprs: &Arena<VExpr>, id: ExprId) -> Result<(), 
             put_expr(out, exprs, *other)?;
             out.word(b")")?;
         }
-        VExpr::Concat { first, more } => {
+        VExpr::Concatenation { first, more } => {
             out.word(b"{")?;
             put_expr(out, exprs, *first)?;
             put_more(out, exprs, more.as_slice(), id.place)?;
             out.word(b"}")?;
         }
-        VExpr::Repeat { count, of } => {
+        VExpr::Replication { count, of } => {
             out.word(b"{")?;
             number(out, *count as u128)?;
             out.word(b"{")?;

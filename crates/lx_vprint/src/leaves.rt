@@ -9,7 +9,7 @@ use lx_vtree::Literal;
 
 /// A number in decimal.
 #[tactic(auto, using(lx_vtext::proofs::Numbers::number_decimal))]
-pub fn number(out: &mut Text, value: u128) -> Result<(), NoMemory>
+pub(crate) fn number(out: &mut Text, value: u128) -> Result<(), NoMemory>
     ensures { OnOk result (out.new ≡ out.old ++ number_text value) }
 {
     out.count(value)
@@ -17,7 +17,7 @@ pub fn number(out: &mut Text, value: u128) -> Result<(), NoMemory>
 
 /// `4'd9`, and `4'sd9` where it is signed.
 #[tactic(auto, unfolding(lx_vtext::specs::Printed::literal_text))]
-pub fn literal(out: &mut Text, value: &Literal) -> Result<(), NoMemory>
+pub(crate) fn literal(out: &mut Text, value: &Literal) -> Result<(), NoMemory>
     ensures { OnOk result (out.new ≡ out.old ++ literal_text value.now.bits value.now.signed value.now.value) }
 {
     number(out, value.bits as u128)?;
@@ -33,7 +33,7 @@ fn base(signed: bool) -> &'static [u8]
 
 /// `[hi:lo]`
 #[tactic(auto, unfolding(lx_vtext::specs::Printed::range_text))]
-pub fn range(out: &mut Text, hi: u64, lo: u64) -> Result<(), NoMemory>
+pub(crate) fn range(out: &mut Text, hi: u64, lo: u64) -> Result<(), NoMemory>
     ensures { OnOk result (out.new ≡ out.old ++ range_text hi lo) }
 {
     out.word(b"[")?;
@@ -44,7 +44,7 @@ pub fn range(out: &mut Text, hi: u64, lo: u64) -> Result<(), NoMemory>
 }
 
 /// The sign of a unary operator.
-pub fn unary_sign(op: UnOp) -> &'static [u8]
+pub(crate) fn unary_sign(op: UnOp) -> &'static [u8]
     ensures { result.now ≡ unary_text op }
 {
     match op {
@@ -54,7 +54,7 @@ pub fn unary_sign(op: UnOp) -> &'static [u8]
 }
 
 /// The sign of a binary operator.
-pub fn binary_sign(op: BinOp) -> &'static [u8]
+pub(crate) fn binary_sign(op: BinOp) -> &'static [u8]
     ensures { result.now ≡ op_text op }
 {
     match op {
@@ -79,7 +79,7 @@ pub fn binary_sign(op: BinOp) -> &'static [u8]
 
 /// Four blanks for each level.
 #[tactic(auto, using(crate::proofs::Margins::margin_more))]
-pub fn margin(out: &mut Text, levels: u128) -> Result<(), NoMemory>
+pub(crate) fn margin(out: &mut Text, levels: u128) -> Result<(), NoMemory>
     ensures { OnOk result (out.new ≡ out.old ++ indent levels) }
 {
     for _ in 0..levels {

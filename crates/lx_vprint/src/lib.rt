@@ -1,13 +1,13 @@
 //! The text of a Verilog module (IEEE 1364-2005): exactly the text of its tree, and so of no other.
 #![tactic(auto)]
 
-pub mod exprs;
-pub mod leaves;
-pub mod parts;
-pub mod stmts;
-pub mod whole;
+mod exprs;
+mod leaves;
+mod parts;
+mod stmts;
+mod whole;
 
-pub use whole::{print, print_parts};
+pub use whole::print;
 
 #[cfg(test)]
 mod tests;

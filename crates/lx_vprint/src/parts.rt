@@ -42,7 +42,7 @@ fn put_bits(out: &mut Text, bits: u64) -> Result<(), NoMemory>
 }
 
 /// A net: `wire [3:0] a`, or `reg signed [3:0] q = 4'sd1`.
-pub fn put_net(out: &mut Text, net: &Net) -> Result<(), NoMemory>
+pub(crate) fn put_net(out: &mut Text, net: &Net) -> Result<(), NoMemory>
     ensures { OnOk result (out.new ≡ out.old ++ net_text (net_of net.now)) }
 {
     match &net.init {
@@ -61,7 +61,7 @@ pub fn put_net(out: &mut Text, net: &Net) -> Result<(), NoMemory>
 }
 
 /// A port.
-pub fn put_port(out: &mut Text, port: &Port) -> Result<(), NoMemory>
+pub(crate) fn put_port(out: &mut Text, port: &Port) -> Result<(), NoMemory>
     ensures { OnOk result (out.new ≡ out.old ++ port_text (port_of port.now)) }
 {
     out.word(direction(port.is_input))?;
@@ -79,7 +79,7 @@ fn direction(is_input: bool) -> &'static [u8]
 }
 
 /// The ports, one a line, with a comma between two.
-pub fn put_ports(out: &mut Text, ports: &[Port]) -> Result<(), NoMemory>
+pub(crate) fn put_ports(out: &mut Text, ports: &[Port]) -> Result<(), NoMemory>
     ensures { OnOk result (out.new ≡ out.old ++ ports_text (map port_of ports.now)) }
 {
     match ports {
@@ -104,7 +104,7 @@ fn put_more_ports(out: &mut Text, ports: &[Port]) -> Result<(), NoMemory>
 
 /// A memory: `reg [7:0] m [0:255]`.
 #[tactic(auto, unfolding(lx_vtext::specs::Printed::memory_text))]
-pub fn put_memory(out: &mut Text, memory: &Memory) -> Result<(), NoMemory>
+pub(crate) fn put_memory(out: &mut Text, memory: &Memory) -> Result<(), NoMemory>
     ensures { OnOk result (out.new ≡ out.old ++ memory_text (memory_of memory.now)) }
 {
     out.word(b"reg [")?;
@@ -117,7 +117,7 @@ pub fn put_memory(out: &mut Text, memory: &Memory) -> Result<(), NoMemory>
 }
 
 /// A declaration.
-pub fn put_decl(out: &mut Text, decl: &Decl) -> Result<(), NoMemory>
+pub(crate) fn put_decl(out: &mut Text, decl: &Decl) -> Result<(), NoMemory>
     ensures { OnOk result (out.new ≡ out.old ++ decl_text (decl_of decl.now)) }
 {
     match decl {
@@ -134,7 +134,7 @@ pub fn put_decl(out: &mut Text, decl: &Decl) -> Result<(), NoMemory>
 }
 
 /// The declarations, one a line.
-pub fn put_decls(out: &mut Text, decls: &[Decl]) -> Result<(), NoMemory>
+pub(crate) fn put_decls(out: &mut Text, decls: &[Decl]) -> Result<(), NoMemory>
     ensures { OnOk result (out.new ≡ out.old ++ flat_map decl_text (map decl_of decls.now)) }
 {
     for decl in decls {
@@ -167,7 +167,7 @@ fn put_words(out: &mut Text, words: &[WordInit]) -> Result<(), NoMemory>
 }
 
 /// An initial block.
-pub fn put_initial(out: &mut Text, initial: &Initial) -> Result<(), NoMemory>
+pub(crate) fn put_initial(out: &mut Text, initial: &Initial) -> Result<(), NoMemory>
     ensures { OnOk result (out.new ≡ out.old ++ initial_text (sets_of initial.now)) }
 {
     out.word(b"initial begin\n")?;
@@ -177,7 +177,7 @@ pub fn put_initial(out: &mut Text, initial: &Initial) -> Result<(), NoMemory>
 }
 
 /// The initial blocks.
-pub fn put_inits(out: &mut Text, inits: &[Initial]) -> Result<(), NoMemory>
+pub(crate) fn put_inits(out: &mut Text, inits: &[Initial]) -> Result<(), NoMemory>
     ensures { OnOk result (out.new ≡ out.old ++ flat_map initial_text (map sets_of inits.now)) }
 {
     for initial in inits {
@@ -188,7 +188,11 @@ pub fn put_inits(out: &mut Text, inits: &[Initial]) -> Result<(), NoMemory>
 
 /// An assign.
 #[tactic(auto, unfolding(lx_vtext::specs::Printed::assign_text))]
-pub fn put_assign(out: &mut Text, exprs: &Arena<VExpr>, assign: &Assign) -> Result<(), NoMemory>
+pub(crate) fn put_assign(
+    out: &mut Text,
+    exprs: &Arena<VExpr>,
+    assign: &Assign,
+) -> Result<(), NoMemory>
     requires { assign.now.value.place < length exprs.now }
     ensures { OnOk result (out.new ≡ out.old ++ assign_text (assign_of (tree_at exprs.now) assign.now)) }
 {
@@ -200,7 +204,11 @@ pub fn put_assign(out: &mut Text, exprs: &Arena<VExpr>, assign: &Assign) -> Resu
 }
 
 /// The assigns, one a line.
-pub fn put_assigns(out: &mut Text, exprs: &Arena<VExpr>, assigns: &[Assign]) -> Result<(), NoMemory>
+pub(crate) fn put_assigns(
+    out: &mut Text,
+    exprs: &Arena<VExpr>,
+    assigns: &[Assign],
+) -> Result<(), NoMemory>
     requires { IsTrue (list_all (λ a. nat_lt a.value.place (length exprs.now)) assigns.now) }
     ensures { OnOk result (out.new ≡ out.old ++ flat_map assign_text (map (assign_of (tree_at exprs.now)) assigns.now)) }
 {
@@ -228,7 +236,7 @@ fn put_event(out: &mut Text, clock: &Option<Word>) -> Result<(), NoMemory>
 
 /// An always block.
 #[tactic(auto, unfolding(lx_vtext::specs::Printed::always_text))]
-pub fn put_always(
+pub(crate) fn put_always(
     out: &mut Text,
     exprs: &Arena<VExpr>,
     stmts: &Arena<VStmt>,
@@ -246,7 +254,7 @@ pub fn put_always(
 }
 
 /// The always blocks.
-pub fn put_always_blocks(
+pub(crate) fn put_always_blocks(
     out: &mut Text,
     exprs: &Arena<VExpr>,
     stmts: &Arena<VStmt>,

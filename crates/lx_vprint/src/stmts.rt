@@ -2,7 +2,7 @@
 
 ghost use Rattle.std.specs.Prelude.{◌≡◌, ◌++◌, ◌+◌, ◌^◌, ◌<◌, ◌≤◌, length, codes, IsTrue, OnOk};
 ghost use Rattle.lx_vtext.specs.Printed.{indent, expr_text, target_text, stmt_text, else_text, block_text, sets_text};
-ghost use Rattle.lx_vtext.specs.Tree as tree;
+ghost use Rattle.lx_vtext.specs.Tree as t;
 ghost use Rattle.lx_vtree.specs.Trees.{tree_at};
 ghost use Rattle.lx_vtree.specs.Stmts.{plant_target, plant_block, plant_else, stmt_at, are_stmts_below, is_else_below, is_target_placed, StmtsPlaced};
 
@@ -13,7 +13,11 @@ use lx_text::{List, NoMemory, Text};
 use lx_vtree::{ExprId, StmtId, VExpr, VStmt, VTarget, stmt};
 
 /// The text of what an assignment writes.
-pub fn put_target(out: &mut Text, exprs: &Arena<VExpr>, target: &VTarget) -> Result<(), NoMemory>
+pub(crate) fn put_target(
+    out: &mut Text,
+    exprs: &Arena<VExpr>,
+    target: &VTarget,
+) -> Result<(), NoMemory>
     requires { IsTrue (is_target_placed (length exprs.now) target.now) }
     ensures { OnOk result (out.new ≡ out.old ++ target_text (plant_target (tree_at exprs.now) target.now)) }
 {
@@ -47,10 +51,10 @@ pub fn put_target(out: &mut Text, exprs: &Arena<VExpr>, target: &VTarget) -> Res
     Ok(())
 }
 
-fn sign(at_once: bool) -> &'static [u8]
-    ensures { result.now ≡ sets_text at_once }
+fn sign(blocking: bool) -> &'static [u8]
+    ensures { result.now ≡ sets_text blocking }
 {
-    if at_once { b" = " } else { b" <= " }
+    if blocking { b" = " } else { b" <= " }
 }
 
 // `target = value;`, or `target <= value;`
@@ -59,16 +63,16 @@ fn put_assignment(
     exprs: &Arena<VExpr>,
     levels: u128,
     target: &VTarget,
-    at_once: bool,
+    blocking: bool,
     value: ExprId,
 ) -> Result<(), NoMemory>
     requires target { IsTrue (is_target_placed (length exprs.now) target.now) }
     requires value { value.place < length exprs.now }
-    ensures { OnOk result (out.new ≡ out.old ++ stmt_text levels (tree.Assign (plant_target (tree_at exprs.now) target.now) at_once (tree_at exprs.now value.place))) }
+    ensures { let at = tree_at exprs.now in OnOk result (out.new ≡ out.old ++ stmt_text levels (t.Assign (plant_target at target.now) blocking (at value.place))) }
 {
     margin(out, levels)?;
     put_target(out, exprs, target)?;
-    out.word(sign(at_once))?;
+    out.word(sign(blocking))?;
     put_expr(out, exprs, value)?;
     out.word(b";\n")?;
     Ok(())
@@ -88,7 +92,7 @@ fn put_if(out: &mut Text, exprs: &Arena<VExpr>, levels: u128, cond: ExprId) -> R
 
 /// The text of the statement at a place, with so many levels of indentation.
 #[cycle(put)]
-pub fn put_stmt(
+pub(crate) fn put_stmt(
     out: &mut Text,
     exprs: &Arena<VExpr>,
     stmts: &Arena<VStmt>,
@@ -103,10 +107,10 @@ pub fn put_stmt(
     match stmt(exprs, stmts, id) {
         VStmt::Assign {
             target,
-            at_once,
+            blocking,
             value,
         } => {
-            put_assignment(out, exprs, levels, target, *at_once, *value)?;
+            put_assignment(out, exprs, levels, target, *blocking, *value)?;
         }
         VStmt::When { cond, so, other } => {
             put_if(out, exprs, levels, *cond)?;
@@ -148,7 +152,7 @@ fn put_else(
 
 /// The texts of the statements at these places, each lower than `bound`.
 #[cycle(put)]
-pub fn put_block(
+pub(crate) fn put_block(
     out: &mut Text,
     exprs: &Arena<VExpr>,
     stmts: &Arena<VStmt>,

@@ -76,7 +76,7 @@ impl Build {
             rt,
             VStmt::Assign {
                 target,
-                at_once: false,
+                blocking: false,
                 value,
             },
         )
@@ -87,7 +87,7 @@ impl Build {
             rt,
             VStmt::Assign {
                 target,
-                at_once: true,
+                blocking: true,
                 value,
             },
         )
@@ -279,12 +279,12 @@ fn joined(rt: &impl Abort, build: &mut Build) -> Result<ExprId, NoMemory> {
     let name = build.word(b"m")?;
     let read = build.expr(rt, VExpr::Word { name, index })?;
     let name = build.word(b"a")?;
-    let bits = build.expr(rt, VExpr::Select { name, hi: 2, lo: 1 })?;
-    let twice = build.expr(rt, VExpr::Repeat { count: 2, of: bits })?;
+    let bits = build.expr(rt, VExpr::PartSelect { name, hi: 2, lo: 1 })?;
+    let twice = build.expr(rt, VExpr::Replication { count: 2, of: bits })?;
     let more = pair(build.alloc, read, twice)?;
     build.expr(
         rt,
-        VExpr::Concat {
+        VExpr::Concatenation {
             first: negated,
             more,
         },
@@ -306,7 +306,7 @@ fn chosen(rt: &impl Abort, build: &mut Build) -> Result<ExprId, NoMemory> {
         }),
     )?;
     let other = build.binary(rt, cut, BinOp::ArithmeticRight, amount)?;
-    build.expr(rt, VExpr::Choose { cond: c, so, other })
+    build.expr(rt, VExpr::Conditional { cond: c, so, other })
 }
 
 // A block with both branches, and each target.

@@ -29,7 +29,7 @@ fn put_parts(out: &mut Text, parts: &Parts) -> Result<(), NoMemory>
 }
 
 /// The text of parts whose places are places of their arenas: exactly the text of their tree.
-pub fn print_parts(alloc: Global, parts: &Parts) -> Result<Text, NoMemory>
+pub(crate) fn print_parts(alloc: Global, parts: &Parts) -> Result<Text, NoMemory>
     requires { ArePlaced parts.now }
     ensures { IfOk result (λ t. t ≡ module_text (module_of parts.now)) }
 {

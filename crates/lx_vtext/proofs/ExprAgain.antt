@@ -5,7 +5,7 @@ use Rattle.lx_vtext.specs.declared.operators.BinOp.TheVariants as op
 use Rattle.lx_vtext.specs.declared.operators.UnOp.{UnOp}
 use Rattle.lx_vtext.specs.declared.operators.UnOp.TheVariants as unary
 use Rattle.lx_vtext.specs.Names.{is_name}
-use Rattle.lx_vtext.specs.Tree.{Name, VExpr, Net, Literal, Select, Word, Unary, Binary, Choose, Concat, Repeat, ToSigned, ToUnsigned, VExprs, NoMore, More}
+use Rattle.lx_vtext.specs.Tree.{Name, VExpr, Net, Literal, PartSelect, Word, Unary, Binary, Conditional, Concatenation, Replication, ToSigned, ToUnsigned, VExprs, NoMore, More}
 use Rattle.lx_vtext.specs.Fits.{is_literal, IsExpr, AreExprs}
 use Rattle.lx_vtext.specs.Printed.{number_text, base_text, literal_text, range_text, expr_text, more_text, unary_text, op_text}
 use Rattle.lx_vtext.specs.Reading.{Reader, after, word_of, named_at, count_at, unary_of, unary_at, op_at, choose_at, binary_at, joined_at, round_at, more_at, parts_at, repeat_at, curly_at, to_signed_at, to_unsigned_at, sign_form_at, start_of, Start, Letter, Digit, Round, Curly, Dollar, leaf_at, form_at, nothing_at, expr_at}
@@ -24,7 +24,7 @@ net_again : (read inner : Reader VExpr) (n : Name) (rest : List ℕ) → IsTrue 
 unfolding form_at named_at
 net_again read inner n rest h c = rw (name_again n rest h (closes_name rest c), closes_bracket rest c) refl
 
-select_again : (read inner : Reader VExpr) (n : Name) (hi lo : ℕ) (rest : List ℕ) → IsTrue (is_name n) → form_at read inner Letter ((n ++ range_text hi lo) ++ rest) ≡ Some (Select n hi lo, rest)
+select_again : (read inner : Reader VExpr) (n : Name) (hi lo : ℕ) (rest : List ℕ) → IsTrue (is_name n) → form_at read inner Letter ((n ++ range_text hi lo) ++ rest) ≡ Some (PartSelect n hi lo, rest)
 unfolding form_at named_at range_text
 select_again read inner n hi lo rest h =
     let tail = number_text hi ++ (codes ":" ++ (number_text lo ++ (codes "]" ++ rest))) in
@@ -76,7 +76,7 @@ binary_again read inner a o b rest ra rb p =
     let joint = codes " " ++ (op_text o ++ (codes " " ++ second)) in
     simp append_assoc (rw (after_again (codes "(") (expr_text a ++ joint), (p joint).unary, ra joint refl, (op_steps o second).0, after_again (codes " ") (op_text o ++ (codes " " ++ second)), (op_steps o second).1, after_again (codes " ") second, rb end refl, after_again (codes ")") rest) refl)
 
-choose_again : (read inner : Reader VExpr) (c a b : VExpr) (rest : List ℕ) → Reads read c → Reads read a → Reads read b → ((r : List ℕ) → Plain (expr_text c ++ r)) → form_at read inner Round ((codes "(" ++ expr_text c ++ codes " ? " ++ expr_text a ++ codes " : " ++ expr_text b ++ codes ")") ++ rest) ≡ Some (Choose c a b, rest)
+choose_again : (read inner : Reader VExpr) (c a b : VExpr) (rest : List ℕ) → Reads read c → Reads read a → Reads read b → ((r : List ℕ) → Plain (expr_text c ++ r)) → form_at read inner Round ((codes "(" ++ expr_text c ++ codes " ? " ++ expr_text a ++ codes " : " ++ expr_text b ++ codes ")") ++ rest) ≡ Some (Conditional c a b, rest)
 unfolding form_at round_at joined_at choose_at
 choose_again read inner c a b rest rc ra rb p =
     let end = codes ")" ++ rest in
@@ -104,7 +104,7 @@ more_again read (suc n) (More e es) rest h le =
     let short : length (more_text es) ≤ n = omega (arith, length-append (codes ", " ++ expr_text e) (more_text es), length-append (codes ", ") (expr_text e)) in
     simp append_assoc (rw (after_again (codes ", ") (expr_text e ++ next), h.0 next (more_closes es rest), more_again read n es rest h.1 short) refl)
 
-concat_again : (read inner : Reader VExpr) (e : VExpr) (es : VExprs) (rest : List ℕ) → Reads read e → ReadsAll read es → ((r : List ℕ) → Plain (expr_text e ++ r)) → form_at read inner Curly ((codes "{" ++ expr_text e ++ more_text es ++ codes "}") ++ rest) ≡ Some (Concat e es, rest)
+concat_again : (read inner : Reader VExpr) (e : VExpr) (es : VExprs) (rest : List ℕ) → Reads read e → ReadsAll read es → ((r : List ℕ) → Plain (expr_text e ++ r)) → form_at read inner Curly ((codes "{" ++ expr_text e ++ more_text es ++ codes "}") ++ rest) ≡ Some (Concatenation e es, rest)
 unfolding form_at curly_at parts_at
 concat_again read inner e es rest re res p =
     let end = codes "}" ++ rest in
@@ -115,7 +115,7 @@ count_again : (k : ℕ) (rest : List ℕ) → count_at (number_text k ++ (codes 
 unfolding count_at
 count_again k rest = rw (number_again k (codes "{" ++ rest) refl, after_again (codes "{") rest) refl
 
-repeat_again : (read inner : Reader VExpr) (k : ℕ) (e : VExpr) (rest : List ℕ) → Reads inner e → form_at read inner Curly ((codes "{" ++ number_text k ++ codes "{" ++ expr_text e ++ codes "}}") ++ rest) ≡ Some (Repeat k e, rest)
+repeat_again : (read inner : Reader VExpr) (k : ℕ) (e : VExpr) (rest : List ℕ) → Reads inner e → form_at read inner Curly ((codes "{" ++ number_text k ++ codes "{" ++ expr_text e ++ codes "}}") ++ rest) ≡ Some (Replication k e, rest)
 unfolding form_at curly_at repeat_at
 repeat_again read inner k e rest re =
     let end = codes "}}" ++ rest in
@@ -182,21 +182,21 @@ mutual
   expr_again (suc d) (Net n) rest h c = by_form d Letter _ _ rest (name_start_of n rest h) (net_again (expr_at d) (inner d) n rest h c)
   expr_again zero (Literal bits signed value) rest h c = literal_leaf bits signed value rest h c
   expr_again (suc d) (Literal bits signed value) rest h c = by_form d Digit _ _ rest (literal_start bits signed value rest) (literal_form (expr_at d) (inner d) bits signed value rest h c)
-  expr_again zero (Select n hi lo) rest h c = absurd h
-  expr_again (suc d) (Select n hi lo) rest h c = by_form d Letter _ _ rest (start_after n (range_text hi lo) rest h) (select_again (expr_at d) (inner d) n hi lo rest h)
+  expr_again zero (PartSelect n hi lo) rest h c = absurd h
+  expr_again (suc d) (PartSelect n hi lo) rest h c = by_form d Letter _ _ rest (start_after n (range_text hi lo) rest h) (select_again (expr_at d) (inner d) n hi lo rest h)
   expr_again zero (Word n e) rest h c = absurd h
   expr_again (suc d) (Word n e) rest h c = by_form d Letter _ _ rest (word_start n (expr_text e) rest h.0) (word_again (expr_at d) (inner d) n e rest h.0 (λ r k. expr_again d e r h.1 k) (λ r. plain d e r h.1))
   expr_again zero (Unary o e) rest h c = absurd h
   expr_again (suc d) (Unary o e) rest h c = by_form d Round _ _ rest refl (unary_again (expr_at d) (inner d) o e rest (λ r k. expr_again d e r h k))
   expr_again zero (Binary a o b) rest h c = absurd h
   expr_again (suc d) (Binary a o b) rest h c = by_form d Round _ _ rest refl (binary_again (expr_at d) (inner d) a o b rest (λ r k. expr_again d a r h.0 k) (λ r k. expr_again d b r h.1 k) (λ r. plain d a r h.0))
-  expr_again zero (Choose q a b) rest h c = absurd h
-  expr_again (suc d) (Choose q a b) rest h c = by_form d Round _ _ rest refl (choose_again (expr_at d) (inner d) q a b rest (λ r k. expr_again d q r h.0 k) (λ r k. expr_again d a r h.1 k) (λ r k. expr_again d b r h.2 k) (λ r. plain d q r h.0))
-  expr_again zero (Concat e es) rest h c = absurd h
-  expr_again (suc d) (Concat e es) rest h c = by_form d Curly _ _ rest refl (concat_again (expr_at d) (inner d) e es rest (λ r k. expr_again d e r h.0 k) (exprs_again d es h.1) (λ r. plain d e r h.0))
-  expr_again zero (Repeat k e) rest h c = absurd h
-  expr_again (suc zero) (Repeat k e) rest h c = absurd h
-  expr_again (suc (suc d)) (Repeat k e) rest h c = by_form (suc d) Curly _ _ rest refl (repeat_again (expr_at (suc d)) (expr_at d) k e rest (λ r q. expr_again d e r h q))
+  expr_again zero (Conditional q a b) rest h c = absurd h
+  expr_again (suc d) (Conditional q a b) rest h c = by_form d Round _ _ rest refl (choose_again (expr_at d) (inner d) q a b rest (λ r k. expr_again d q r h.0 k) (λ r k. expr_again d a r h.1 k) (λ r k. expr_again d b r h.2 k) (λ r. plain d q r h.0))
+  expr_again zero (Concatenation e es) rest h c = absurd h
+  expr_again (suc d) (Concatenation e es) rest h c = by_form d Curly _ _ rest refl (concat_again (expr_at d) (inner d) e es rest (λ r k. expr_again d e r h.0 k) (exprs_again d es h.1) (λ r. plain d e r h.0))
+  expr_again zero (Replication k e) rest h c = absurd h
+  expr_again (suc zero) (Replication k e) rest h c = absurd h
+  expr_again (suc (suc d)) (Replication k e) rest h c = by_form (suc d) Curly _ _ rest refl (repeat_again (expr_at (suc d)) (expr_at d) k e rest (λ r q. expr_again d e r h q))
   expr_again zero (ToSigned e) rest h c = absurd h
   expr_again (suc d) (ToSigned e) rest h c = by_form d Dollar _ _ rest refl (signed_again (expr_at d) (inner d) e rest (λ r k. expr_again d e r h k))
   expr_again zero (ToUnsigned e) rest h c = absurd h

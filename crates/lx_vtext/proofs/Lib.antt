@@ -8,3 +8,4 @@ pub mod Gives
 pub mod Takes
 pub mod ModuleTakes
 pub mod Numbers
+pub mod Levels

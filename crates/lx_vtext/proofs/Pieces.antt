@@ -9,10 +9,7 @@ use Rattle.lx_vtext.specs.Tree.{Name, Literal, VLiteral}
 use Rattle.lx_vtext.specs.Fits.{is_literal, IsValue}
 use Rattle.lx_vtext.specs.Printed.{number_text, base_text, literal_text, value_text}
 use Rattle.lx_vtext.specs.Reading.{after, front, behind, name_at, number_value, number_at, range_at, sign_at, value_at, literal_at}
-
-pub both : (a b : Bool) → (a && b) ≡ true → (a ≡ true) × (b ≡ true)
-both true b e = (refl, e)
-both false b e = absurd cc
+pub use Rattle.std.proofs.lemmas.Bool.{and_parts as both}
 
 pub join_and : (a b : Bool) → a ≡ true → b ≡ true → (a && b) ≡ true
 join_and a b p q = rw (p, q) refl

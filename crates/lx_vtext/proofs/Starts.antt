@@ -1,7 +1,7 @@
 -- How the text of an expression begins, which tells the forms apart.
 use Rattle.std.proofs.Common.{◌≡◌, ℕ, zero, suc, ◌+◌, ◌≤◌, Bool, true, false, ◌&&◌, ◌||◌, ◌==◌, ◌⊎◌, inl, inr, List, [], ◌∷◌, ◌++◌, None, IsTrue, nat_le, codes, refl, sym, ap, ◌∙◌, append_assoc, arith, eqb-true, leb-true}
 use Rattle.lx_vtext.specs.Names.{is_digit, is_name_start, is_spelled, is_name}
-use Rattle.lx_vtext.specs.Tree.{Name, VExpr, Net, Literal, Select, Word, Unary, Binary, Choose, Concat, Repeat, ToSigned, ToUnsigned}
+use Rattle.lx_vtext.specs.Tree.{Name, VExpr, Net, Literal, PartSelect, Word, Unary, Binary, Conditional, Concatenation, Replication, ToSigned, ToUnsigned}
 use Rattle.lx_vtext.specs.Fits.{IsExpr}
 use Rattle.lx_vtext.specs.Printed.{number_text, base_text, literal_text, range_text, expr_text}
 use Rattle.lx_vtext.specs.Reading.{after, number_at, range_at, count_at, unary_of, start_of, Letter, Digit}
@@ -103,14 +103,14 @@ pub plain : (d : ℕ) (e : VExpr) (r : List ℕ) → IsExpr d e → Plain (expr_
 unfolding literal_text
 plain d (Net n) r h = plain_name n r h
 plain d (Literal bits signed value) r h = simp append_assoc (plain_literal bits signed (number_text value ++ r))
-plain zero (Select n hi lo) r h = absurd h
-plain (suc d) (Select n hi lo) r h = rw append_assoc (plain_name n (range_text hi lo ++ r) h)
+plain zero (PartSelect n hi lo) r h = absurd h
+plain (suc d) (PartSelect n hi lo) r h = rw append_assoc (plain_name n (range_text hi lo ++ r) h)
 plain zero (Word n e) r h = absurd h
 plain (suc d) (Word n e) r h = simp append_assoc (plain_name n (codes "[" ++ (expr_text e ++ (codes "]" ++ r))) h.0)
 plain d (Unary op e) r h = plain_byte 40 _ refl refl refl
 plain d (Binary a op b) r h = plain_byte 40 _ refl refl refl
-plain d (Choose c a b) r h = plain_byte 40 _ refl refl refl
-plain d (Concat e es) r h = plain_byte 123 _ refl refl refl
-plain d (Repeat k e) r h = plain_byte 123 _ refl refl refl
+plain d (Conditional c a b) r h = plain_byte 40 _ refl refl refl
+plain d (Concatenation e es) r h = plain_byte 123 _ refl refl refl
+plain d (Replication k e) r h = plain_byte 123 _ refl refl refl
 plain d (ToSigned e) r h = plain_byte 36 _ refl refl refl
 plain d (ToUnsigned e) r h = plain_byte 36 _ refl refl refl

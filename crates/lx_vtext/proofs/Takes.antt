@@ -4,7 +4,7 @@ use Rattle.lx_vtext.specs.declared.operators.BinOp.{BinOp}
 use Rattle.lx_vtext.specs.declared.operators.UnOp.{UnOp}
 use Rattle.lx_vtext.specs.declared.operators.UnOp.TheVariants as unary
 use Rattle.lx_vtext.specs.Names.{is_digit, is_name_byte, is_name}
-use Rattle.lx_vtext.specs.Tree.{Name, VExpr, Net, Literal, Select, Word, Unary, Binary, Choose, Concat, Repeat, ToSigned, ToUnsigned, VExprs, VTarget, Whole, Part, WholeWord, PartWord, VStmt, Assign, When, NoElse, Else, VBlock}
+use Rattle.lx_vtext.specs.Tree.{Name, VExpr, Net, Literal, PartSelect, Word, Unary, Binary, Conditional, Concatenation, Replication, ToSigned, ToUnsigned, VExprs, VTarget, Whole, Part, WholeWord, PartWord, VStmt, Assign, When, NoElse, Else, VBlock}
 use Rattle.lx_vtext.specs.Fits.{IsValue, IsExpr, AreExprs, IsTarget, IsStmt, IsBlock}
 use Rattle.lx_vtext.specs.Printed.{number_text, base_text, literal_text, range_text, value_text, expr_text, more_text, unary_text, op_text, indent, target_text, sets_text, stmt_text, block_text}
 use Rattle.lx_vtext.specs.Reading.{◌>>=◌, Reader, after, front, behind, name_at, number_value, number_at, range_at, sign_at, value_at, literal_at, word_of, named_at, unary_of, unary_at, ops, find_op, not_blank, op_at, choose_at, binary_at, joined_at, round_at, with_part, more_at, parts_at, count_at, repeat_at, curly_at, to_signed_at, to_unsigned_at, sign_form_at, start_of, Start, Letter, Digit, Round, Curly, Dollar, Other, leaf_at, form_at, nothing_at, expr_at, word_target_of, target_at, sets_at, assign_stmt_at, Blocks, else_at, end_at, when_at, stmt_at, with_stmt, stmts_at, block_at}
@@ -63,7 +63,7 @@ named_takes : (read : Reader VExpr) (d : ℕ) (bytes : List ℕ) → Takes read 
 unfolding named_at
 named_takes read d bytes t =
     and_then (name_takes bytes) (λ n h. if_given (after_takes (codes "[") n.1)
-    (λ r a. if_given (range_takes r) (λ s b. gives_some (Select n.0 s.0.0 s.0.1, s.1) (h.0, rw (h.1, a, b) (simp append_assoc refl))) (word_takes read d n.0 r bytes t h.0 (rw (h.1, a) refl)))
+    (λ r a. if_given (range_takes r) (λ s b. gives_some (PartSelect n.0 s.0.0 s.0.1, s.1) (h.0, rw (h.1, a, b) (simp append_assoc refl))) (word_takes read d n.0 r bytes t h.0 (rw (h.1, a) refl)))
     (gives_some (Net n.0, n.1) h))
 
 unary_op_takes : (bytes : List ℕ) → Gives (unary_of bytes) (λ y. bytes ≡ unary_text y.0 ++ y.1)
@@ -88,7 +88,7 @@ choose_takes : (read : Reader VExpr) (d : ℕ) (x : VExpr) (bytes whole : List �
 unfolding choose_at
 choose_takes read d x bytes whole t h w =
     and_then (t bytes) (λ a g. and_then (after_takes (codes " : ") a.1) (λ r c. and_then (t r) (λ b k. and_then (after_takes (codes ")") b.1) (λ s e.
-    gives_some (Choose x a.0 b.0, s) ((h, g.0, k.0), rw (w, g.1, c, k.1, e) (simp append_assoc refl))))))
+    gives_some (Conditional x a.0 b.0, s) ((h, g.0, k.0), rw (w, g.1, c, k.1, e) (simp append_assoc refl))))))
 
 binary_takes : (read : Reader VExpr) (d : ℕ) (x : VExpr) (bytes whole : List ℕ) → Takes read d → IsExpr d x → whole ≡ codes "(" ++ (expr_text x ++ bytes) → Gives (binary_at read x bytes) (GoodExpr (suc d) whole)
 unfolding binary_at
@@ -128,7 +128,7 @@ parts_takes : (read : Reader VExpr) (d : ℕ) (bytes whole : List ℕ) → Takes
 unfolding parts_at
 parts_takes read d bytes whole t w =
     and_then (t bytes) (λ e g. let m = more_takes read d (length e.1) e.1 t in and_then (after_takes (codes "}") (more_at read (length e.1) e.1).1) (λ r a.
-    gives_some (Concat e.0 (more_at read (length e.1) e.1).0, r) ((g.0, m.0), w ∙ ap (λ x. codes "{" ++ x) (g.1 ∙ ap (λ x. expr_text e.0 ++ x) (m.1 ∙ ap (λ x. more_text (more_at read (length e.1) e.1).0 ++ x) a)) ∙ joined (expr_text e.0) (more_text (more_at read (length e.1) e.1).0) r)))
+    gives_some (Concatenation e.0 (more_at read (length e.1) e.1).0, r) ((g.0, m.0), w ∙ ap (λ x. codes "{" ++ x) (g.1 ∙ ap (λ x. expr_text e.0 ++ x) (m.1 ∙ ap (λ x. more_text (more_at read (length e.1) e.1).0 ++ x) a)) ∙ joined (expr_text e.0) (more_text (more_at read (length e.1) e.1).0) r)))
   where
     joined : (a b c : List ℕ) → codes "{" ++ (a ++ (b ++ (codes "}" ++ c))) ≡ (((codes "{" ++ a) ++ b) ++ codes "}") ++ c
     joined a b c = simp append_assoc refl
@@ -147,7 +147,7 @@ unfolding repeat_at
 repeat_takes inner zero k bytes whole t w = rw (t bytes) gives_none
 repeat_takes inner (suc d) k bytes whole t w =
     and_then (t bytes) (λ e g. and_then (after_takes (codes "}}") e.1) (λ r a.
-    gives_some (Repeat k e.0, r) (g.0, rw (w, g.1, a) (simp append_assoc refl))))
+    gives_some (Replication k e.0, r) (g.0, rw (w, g.1, a) (simp append_assoc refl))))
 
 curly_takes : (read inner : Reader VExpr) (d : ℕ) (bytes whole : List ℕ) → Takes read d → Inner inner d → whole ≡ codes "{" ++ bytes → Gives (curly_at read inner bytes) (GoodExpr (suc d) whole)
 unfolding curly_at

@@ -2,7 +2,7 @@
 use Rattle.std.specs.Prelude.{◌≡◌, ℕ, zero, suc, Bool, true, ◌&&◌, ◌^◌, ◌≤◌, None, IsTrue, IfSome, nat_le, nat_lt}
 use Rattle.std.specs.List.{AllByRecursion}
 use Rattle.lx_vtext.specs.Names.{is_name}
-use Rattle.lx_vtext.specs.Tree.{VExpr, Net, Literal, Select, Word, Unary, Binary, Choose, Concat, Repeat, ToSigned, ToUnsigned, VExprs, NoMore, More, VTarget, Whole, Part, WholeWord, PartWord, VStmt, Assign, When, VElse, NoElse, Else, VBlock, EndBlock, InBlock, VLiteral, VNet, VPort, VMemory, VDecl, NetDecl, MemoryDecl, VSet, VAssign, VAlways, VModule}
+use Rattle.lx_vtext.specs.Tree.{VExpr, Net, Literal, PartSelect, Word, Unary, Binary, Conditional, Concatenation, Replication, ToSigned, ToUnsigned, VExprs, NoMore, More, VTarget, Whole, Part, WholeWord, PartWord, VStmt, Assign, When, VElse, NoElse, Else, VBlock, EndBlock, InBlock, VLiteral, VNet, VPort, VMemory, VDecl, NetDecl, MemoryDecl, VSet, VAssign, VAlways, VModule}
 
 -- 1 to 128 bits, and a value of so many bits
 abbrev pub is_literal : ℕ → ℕ → Bool
@@ -13,13 +13,13 @@ abbrev mutual
   pub IsExpr : ℕ → VExpr → Type 0
   IsExpr d (Net n) = IsTrue (is_name n)
   IsExpr d (Literal bits signed value) = IsTrue (is_literal bits value)
-  IsExpr (suc d) (Select n hi lo) = IsTrue (is_name n)
+  IsExpr (suc d) (PartSelect n hi lo) = IsTrue (is_name n)
   IsExpr (suc d) (Word n e) = IsTrue (is_name n) × IsExpr d e
   IsExpr (suc d) (Unary op e) = IsExpr d e
   IsExpr (suc d) (Binary a op b) = IsExpr d a × IsExpr d b
-  IsExpr (suc d) (Choose c a b) = IsExpr d c × IsExpr d a × IsExpr d b
-  IsExpr (suc d) (Concat e es) = IsExpr d e × AreExprs d es
-  IsExpr (suc (suc d)) (Repeat k e) = IsExpr d e
+  IsExpr (suc d) (Conditional c a b) = IsExpr d c × IsExpr d a × IsExpr d b
+  IsExpr (suc d) (Concatenation e es) = IsExpr d e × AreExprs d es
+  IsExpr (suc (suc d)) (Replication k e) = IsExpr d e
   IsExpr (suc d) (ToSigned e) = IsExpr d e
   IsExpr (suc d) (ToUnsigned e) = IsExpr d e
   IsExpr _ _ = ⊥
@@ -37,7 +37,7 @@ IsTarget (PartWord n e hi lo) = IsTrue (is_name n) × IsExpr 31 e
 -- statements that nest at most so deep
 abbrev mutual
   pub IsStmt : ℕ → VStmt → Type 0
-  IsStmt d (Assign t at_once e) = IsTarget t × IsExpr 32 e
+  IsStmt d (Assign t blocking e) = IsTarget t × IsExpr 32 e
   IsStmt d (When c so other) = IsExpr 31 c × IsBlock d so × IsElse d other
 
   pub IsElse : ℕ → VElse → Type 0

@@ -4,3 +4,4 @@ pub mod Fits
 pub mod Printed
 pub mod Reading
 pub mod Laws
+pub mod Worked

@@ -5,7 +5,7 @@ use Rattle.lx_vtext.specs.declared.operators.BinOp.{BinOp}
 use Rattle.lx_vtext.specs.declared.operators.BinOp.TheVariants as op
 use Rattle.lx_vtext.specs.declared.operators.UnOp.{UnOp}
 use Rattle.lx_vtext.specs.declared.operators.UnOp.TheVariants as unary
-use Rattle.lx_vtext.specs.Tree.{Name, VExpr, Net, Literal, Select, Word, Unary, Binary, Choose, Concat, Repeat, ToSigned, ToUnsigned, VExprs, NoMore, More, VTarget, Whole, Part, WholeWord, PartWord, VStmt, Assign, When, VElse, NoElse, Else, VBlock, EndBlock, InBlock, VLiteral, VNet, VPort, VMemory, VDecl, NetDecl, MemoryDecl, VSet, VAssign, VAlways, VModule}
+use Rattle.lx_vtext.specs.Tree.{Name, VExpr, Net, Literal, PartSelect, Word, Unary, Binary, Conditional, Concatenation, Replication, ToSigned, ToUnsigned, VExprs, NoMore, More, VTarget, Whole, Part, WholeWord, PartWord, VStmt, Assign, When, VElse, NoElse, Else, VBlock, EndBlock, InBlock, VLiteral, VNet, VPort, VMemory, VDecl, NetDecl, MemoryDecl, VSet, VAssign, VAlways, VModule}
 
 -- a number in decimal, without a leading zero
 unfoldable pub number_text : ℕ → List ℕ
@@ -47,13 +47,13 @@ abbrev mutual
   pub expr_text : VExpr → List ℕ
   expr_text (Net n) = n
   expr_text (Literal bits signed value) = literal_text bits signed value
-  expr_text (Select n hi lo) = n ++ range_text hi lo
+  expr_text (PartSelect n hi lo) = n ++ range_text hi lo
   expr_text (Word n e) = n ++ codes "[" ++ expr_text e ++ codes "]"
   expr_text (Unary op e) = codes "(" ++ unary_text op ++ expr_text e ++ codes ")"
   expr_text (Binary a op b) = codes "(" ++ expr_text a ++ codes " " ++ op_text op ++ codes " " ++ expr_text b ++ codes ")"
-  expr_text (Choose c a b) = codes "(" ++ expr_text c ++ codes " ? " ++ expr_text a ++ codes " : " ++ expr_text b ++ codes ")"
-  expr_text (Concat e es) = codes "{" ++ expr_text e ++ more_text es ++ codes "}"
-  expr_text (Repeat k e) = codes "{" ++ number_text k ++ codes "{" ++ expr_text e ++ codes "}}"
+  expr_text (Conditional c a b) = codes "(" ++ expr_text c ++ codes " ? " ++ expr_text a ++ codes " : " ++ expr_text b ++ codes ")"
+  expr_text (Concatenation e es) = codes "{" ++ expr_text e ++ more_text es ++ codes "}"
+  expr_text (Replication k e) = codes "{" ++ number_text k ++ codes "{" ++ expr_text e ++ codes "}}"
   expr_text (ToSigned e) = codes "$signed(" ++ expr_text e ++ codes ")"
   expr_text (ToUnsigned e) = codes "$unsigned(" ++ expr_text e ++ codes ")"
 
@@ -78,7 +78,7 @@ sets_text false = codes " <= "
 
 abbrev mutual
   pub stmt_text : ℕ → VStmt → List ℕ
-  stmt_text k (Assign t at_once e) = indent k ++ target_text t ++ sets_text at_once ++ expr_text e ++ codes ";\n"
+  stmt_text k (Assign t blocking e) = indent k ++ target_text t ++ sets_text blocking ++ expr_text e ++ codes ";\n"
   stmt_text k (When c so other) = indent k ++ codes "if (" ++ expr_text c ++ codes ") begin\n" ++ block_text (k + 1) so ++ else_text k other ++ indent k ++ codes "end\n"
 
   pub else_text : ℕ → VElse → List ℕ

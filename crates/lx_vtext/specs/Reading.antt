@@ -5,7 +5,7 @@ use Rattle.lx_vtext.specs.declared.operators.BinOp.{BinOp}
 use Rattle.lx_vtext.specs.declared.operators.BinOp.TheVariants as op
 use Rattle.lx_vtext.specs.declared.operators.UnOp.{UnOp}
 use Rattle.lx_vtext.specs.declared.operators.UnOp.TheVariants as unary
-use Rattle.lx_vtext.specs.Tree.{Name, VExpr, Net, Literal, Select, Word, Unary, Binary, Choose, Concat, Repeat, ToSigned, ToUnsigned, VExprs, NoMore, More, VTarget, Whole, Part, WholeWord, PartWord, VStmt, Assign, When, NoElse, Else, VBlock, EndBlock, InBlock, VLiteral, VNet, VPort, VDecl, NetDecl, MemoryDecl, VSet, VAssign, VAlways, VModule}
+use Rattle.lx_vtext.specs.Tree.{Name, VExpr, Net, Literal, PartSelect, Word, Unary, Binary, Conditional, Concatenation, Replication, ToSigned, ToUnsigned, VExprs, NoMore, More, VTarget, Whole, Part, WholeWord, PartWord, VStmt, Assign, When, NoElse, Else, VBlock, EndBlock, InBlock, VLiteral, VNet, VPort, VDecl, NetDecl, MemoryDecl, VSet, VAssign, VAlways, VModule}
 use Rattle.lx_vtext.specs.Names.{is_digit, is_name_start, is_name_byte, is_name}
 use Rattle.lx_vtext.specs.Printed.{number_text, op_text, indent}
 use Rattle.lx_vtext.specs.Fits.{is_literal}
@@ -89,7 +89,7 @@ word_of read name bytes = do
 unfoldable pub named_at : Reader VExpr → Reader VExpr
 named_at read bytes = do
   n ← name_at bytes
-  if_some (after (codes "[") n.1) (λ b. if_some (range_at b) (λ r. Some (Select n.0 r.0.0 r.0.1, r.1)) (word_of read n.0 b)) (Some (Net n.0, n.1))
+  if_some (after (codes "[") n.1) (λ b. if_some (range_at b) (λ r. Some (PartSelect n.0 r.0.0 r.0.1, r.1)) (word_of read n.0 b)) (Some (Net n.0, n.1))
 
 unfoldable pub unary_of : Reader UnOp
 unary_of bytes = if_some (after (codes "-") bytes) (λ r. Some (unary.Negate, r)) (after (codes "~") bytes >>= λ r. Some (unary.Invert, r))
@@ -119,7 +119,7 @@ choose_at read c bytes = do
   colon ← after (codes " : ") a.1
   b ← read colon
   rest ← after (codes ")") b.1
-  Some (Choose c a.0 b.0, rest)
+  Some (Conditional c a.0 b.0, rest)
 
 unfoldable pub binary_at : Reader VExpr → VExpr → Reader VExpr
 binary_at read a bytes = do
@@ -153,7 +153,7 @@ parts_at read bytes = do
   e ← read bytes
   let es = more_at read (length e.1) e.1
   rest ← after (codes "}") es.1
-  Some (Concat e.0 es.0, rest)
+  Some (Concatenation e.0 es.0, rest)
 
 -- `count{` behind `{`
 unfoldable pub count_at : Reader ℕ
@@ -166,7 +166,7 @@ unfoldable pub repeat_at : Reader VExpr → ℕ → Reader VExpr
 repeat_at inner k bytes = do
   e ← inner bytes
   rest ← after (codes "}}") e.1
-  Some (Repeat k e.0, rest)
+  Some (Replication k e.0, rest)
 
 -- behind `{`
 unfoldable pub curly_at : Reader VExpr → Reader VExpr → Reader VExpr
@@ -241,10 +241,10 @@ sets_at bytes = if_some (after (codes " = ") bytes) (λ r. Some (true, r)) (afte
 
 unfoldable pub assign_stmt_at : VTarget → Reader VStmt
 assign_stmt_at target bytes = do
-  at_once ← sets_at bytes
-  e ← expr_at 32 at_once.1
+  blocking ← sets_at bytes
+  e ← expr_at 32 blocking.1
   rest ← after (codes ";\n") e.1
-  Some (Assign target at_once.0 e.0, rest)
+  Some (Assign target blocking.0 e.0, rest)
 
 -- blocks read as far as there are statements
 abbrev pub Blocks : Type 0

@@ -12,16 +12,16 @@ mutual
     Net : (name : Name) → VExpr
     Literal : (bits : ℕ) (signed : Bool) (value : ℕ) → VExpr
     -- name[hi:lo]
-    Select : (name : Name) (hi lo : ℕ) → VExpr
+    PartSelect : (name : Name) (hi lo : ℕ) → VExpr
     -- name[index], a word of a memory
     Word : (name : Name) (index : VExpr) → VExpr
     Unary : (op : UnOp) (of : VExpr) → VExpr
     Binary : (left : VExpr) (op : BinOp) (right : VExpr) → VExpr
     -- cond ? so : other
-    Choose : (cond so other : VExpr) → VExpr
+    Conditional : (cond so other : VExpr) → VExpr
     -- the first part stands in the highest bits
-    Concat : (first : VExpr) (more : VExprs) → VExpr
-    Repeat : (count : ℕ) (of : VExpr) → VExpr
+    Concatenation : (first : VExpr) (more : VExprs) → VExpr
+    Replication : (count : ℕ) (of : VExpr) → VExpr
     ToSigned : (of : VExpr) → VExpr
     ToUnsigned : (of : VExpr) → VExpr
 
@@ -37,8 +37,8 @@ pub data VTarget : Type 0 where
 
 mutual
   pub data VStmt : Type 0 where
-    -- `=` where it acts at once, else `<=`
-    Assign : (target : VTarget) (at_once : Bool) (value : VExpr) → VStmt
+    -- `=` where it is blocking, else `<=`
+    Assign : (target : VTarget) (blocking : Bool) (value : VExpr) → VStmt
     When : (cond : VExpr) (so : VBlock) (other : VElse) → VStmt
 
   pub data VElse : Type 0 where

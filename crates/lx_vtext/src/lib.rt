@@ -4,5 +4,5 @@
 pub mod laws;
 pub mod operators;
 
-pub use laws::{one_reading_law, one_text_law};
+pub use laws::{bounds_are_worked, one_reading_law, one_text_law};
 pub use operators::{BinOp, UnOp};

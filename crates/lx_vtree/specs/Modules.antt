@@ -1,5 +1,5 @@
 -- The tree of a module whose expressions and statements stand in arenas.
-use Rattle.std.specs.Prelude.{ℕ, Bool, true, ◌&&◌, List, Option, Some, None, map, option_map, length, nat_lt, IsTrue}
+use Rattle.std.specs.Prelude.{ℕ, Bool, ◌&&◌, List, map, option_map, length, nat_lt, IsTrue}
 use Rattle.std.specs.List.{list_all}
 use Rattle.lx_vtext.specs.Tree as tree
 use Rattle.lx_vtext.specs.Fits.{IsModule}
@@ -16,7 +16,7 @@ use Rattle.lx_vtree.specs.declared.modules.Assign.{Assign}
 use Rattle.lx_vtree.specs.declared.modules.Always.{Always}
 use Rattle.lx_vtree.specs.declared.modules.Parts.{Parts}
 use Rattle.lx_vtree.specs.Trees.{tree_at}
-use Rattle.lx_vtree.specs.Stmts.{StmtRef, plant_block, stmt_at, are_stmts_below, is_stmt_placed, StmtsPlaced}
+use Rattle.lx_vtree.specs.Stmts.{plant_block, stmt_at, are_stmts_below, is_stmt_placed, StmtsPlaced}
 
 abbrev pub literal_of : Literal → tree.VLiteral
 literal_of l = record { bits = l.bits; signed = l.signed; value = l.value }

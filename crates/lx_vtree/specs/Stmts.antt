@@ -1,6 +1,7 @@
 -- The tree of a statement that hangs at a place of an arena.
-use Rattle.std.specs.Prelude.{ℕ, zero, suc, Bool, true, false, ◌&&◌, List, [], ◌∷◌, Option, Some, None, slice_get, nat_lt, IfSome, IsTrue}
+use Rattle.std.specs.Prelude.{ℕ, Bool, true, ◌&&◌, List, [], ◌∷◌, Option, Some, None, slice_get, nat_lt, IfSome, IsTrue}
 use Rattle.lx_arena.specs.declared.Id.{Id}
+use Rattle.lx_arena.specs.Folds.{fold_at}
 use Rattle.lx_vtext.specs.Tree as tree
 use Rattle.lx_vtree.specs.declared.nodes.InStmts.{InStmts}
 use Rattle.lx_vtree.specs.declared.nodes.VStmt.{VStmt}
@@ -28,24 +29,16 @@ plant_else g (Some ids) = tree.Else (plant_block g ids)
 
 -- f gives the trees of expressions, and g those of the statements inside
 abbrev pub plant_stmt : (ℕ → tree.VExpr) → (ℕ → tree.VStmt) → VStmt → tree.VStmt
-plant_stmt f g (stmt.Assign t at_once e) = tree.Assign (plant_target f t) at_once (f e.place)
+plant_stmt f g (stmt.Assign t blocking e) = tree.Assign (plant_target f t) blocking (f e.place)
 plant_stmt f g (stmt.When c so other) = tree.When (f c.place) (plant_block g so) (plant_else g other)
 
 -- where there is no node, a tree that has no text
 abbrev pub no_stmt : tree.VStmt
 no_stmt = tree.Assign (tree.Whole []) true nowhere
 
-abbrev pub plant_some_stmt : (ℕ → tree.VExpr) → (ℕ → tree.VStmt) → Option VStmt → tree.VStmt
-plant_some_stmt f g None = no_stmt
-plant_some_stmt f g (Some s) = plant_stmt f g s
-
-abbrev pub stmt_within : (ℕ → tree.VExpr) → List VStmt → ℕ → ℕ → tree.VStmt
-stmt_within f nodes zero id = no_stmt
-stmt_within f nodes (suc n) id = plant_some_stmt f (stmt_within f nodes n) (slice_get nodes id)
-
 -- the tree at a place
-unfoldable pub stmt_at : (ℕ → tree.VExpr) → List VStmt → ℕ → tree.VStmt
-stmt_at f nodes id = stmt_within f nodes (suc id) id
+abbrev pub stmt_at : (ℕ → tree.VExpr) → List VStmt → ℕ → tree.VStmt
+stmt_at f = fold_at no_stmt (plant_stmt f)
 
 -- ---- places
 
@@ -59,7 +52,7 @@ is_else_below (Some ids) n = are_stmts_below ids n
 
 -- all statements inside stand at places lower than n
 abbrev pub is_stmt_below : VStmt → ℕ → Bool
-is_stmt_below (stmt.Assign t at_once e) n = true
+is_stmt_below (stmt.Assign t blocking e) n = true
 is_stmt_below (stmt.When c so other) n = are_stmts_below so n && is_else_below other n
 
 abbrev pub is_target_placed : ℕ → VTarget → Bool
@@ -70,7 +63,7 @@ is_target_placed n (target.PartWord name index hi lo) = nat_lt index.place n
 
 -- all its expressions stand at places lower than n
 abbrev pub is_stmt_placed : ℕ → VStmt → Bool
-is_stmt_placed n (stmt.Assign t at_once e) = is_target_placed n t && nat_lt e.place n
+is_stmt_placed n (stmt.Assign t blocking e) = is_target_placed n t && nat_lt e.place n
 is_stmt_placed n (stmt.When c so other) = nat_lt c.place n
 
 -- all expressions of the statements stand at places lower than n

@@ -1,5 +1,6 @@
 -- The tree of an expression that hangs at a place of an arena.
-use Rattle.std.specs.Prelude.{ℕ, zero, suc, List, [], ◌∷◌, Option, Some, None, slice_get}
+use Rattle.std.specs.Prelude.{ℕ, List, [], ◌∷◌}
+use Rattle.lx_arena.specs.Folds.{fold_at}
 use Rattle.lx_vtext.specs.Tree as tree
 use Rattle.lx_vtree.specs.declared.nodes.VExpr.{VExpr}
 use Rattle.lx_vtree.specs.declared.nodes.VExpr.TheVariants as node
@@ -13,13 +14,13 @@ plants f (id ∷ ids) = tree.More (f id.place) (plants f ids)
 abbrev pub plant : (ℕ → tree.VExpr) → VExpr → tree.VExpr
 plant f (node.Net name) = tree.Net name
 plant f (node.Literal l) = tree.Literal l.bits l.signed l.value
-plant f (node.Select name hi lo) = tree.Select name hi lo
+plant f (node.PartSelect name hi lo) = tree.PartSelect name hi lo
 plant f (node.Word name index) = tree.Word name (f index.place)
 plant f (node.Unary op of) = tree.Unary op (f of.place)
 plant f (node.Binary left op right) = tree.Binary (f left.place) op (f right.place)
-plant f (node.Choose c so other) = tree.Choose (f c.place) (f so.place) (f other.place)
-plant f (node.Concat first more) = tree.Concat (f first.place) (plants f more)
-plant f (node.Repeat count of) = tree.Repeat count (f of.place)
+plant f (node.Conditional c so other) = tree.Conditional (f c.place) (f so.place) (f other.place)
+plant f (node.Concatenation first more) = tree.Concatenation (f first.place) (plants f more)
+plant f (node.Replication count of) = tree.Replication count (f of.place)
 plant f (node.ToSigned of) = tree.ToSigned (f of.place)
 plant f (node.ToUnsigned of) = tree.ToUnsigned (f of.place)
 
@@ -27,14 +28,6 @@ plant f (node.ToUnsigned of) = tree.ToUnsigned (f of.place)
 abbrev pub nowhere : tree.VExpr
 nowhere = tree.Net []
 
-abbrev pub plant_some : (ℕ → tree.VExpr) → Option VExpr → tree.VExpr
-plant_some f None = nowhere
-plant_some f (Some e) = plant f e
-
-abbrev pub tree_within : List VExpr → ℕ → ℕ → tree.VExpr
-tree_within nodes zero id = nowhere
-tree_within nodes (suc n) id = plant_some (tree_within nodes n) (slice_get nodes id)
-
 -- the tree at a place
-unfoldable pub tree_at : List VExpr → ℕ → tree.VExpr
-tree_at nodes id = tree_within nodes (suc id) id
+abbrev pub tree_at : List VExpr → ℕ → tree.VExpr
+tree_at = fold_at nowhere plant

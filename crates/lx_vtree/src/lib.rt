@@ -1,10 +1,10 @@
 //! The tree of a Verilog module in arenas, and what it keeps.
 #![tactic(auto)]
 
-pub mod modules;
-pub mod nodes;
-pub mod places;
-pub mod trees;
+mod modules;
+mod nodes;
+mod places;
+mod trees;
 
 pub use modules::{Always, Assign, Decl, Initial, Memory, Module, Net, Parts, Port, WordInit};
 pub use nodes::{ExprId, InExprs, InStmts, Literal, StmtId, VExpr, VStmt, VTarget};

@@ -39,7 +39,7 @@ pub enum VExpr {
     /// `4'd9`
     Literal(Literal),
     /// `name[hi:lo]`
-    Select {
+    PartSelect {
         name: Word,
         hi: u64,
         lo: u64,
@@ -61,18 +61,18 @@ pub enum VExpr {
         right: ExprId,
     },
     /// `(cond ? so : other)`
-    Choose {
+    Conditional {
         cond: ExprId,
         so: ExprId,
         other: ExprId,
     },
     /// `{first, more}`, the first part in the highest bits
-    Concat {
+    Concatenation {
         first: ExprId,
         more: List<ExprId>,
     },
     /// `{count{of}}`
-    Repeat {
+    Replication {
         count: u64,
         of: ExprId,
     },
@@ -110,10 +110,10 @@ pub enum VTarget {
 /// A statement; the statements inside it are named by their places.
 #[derive(Drop)]
 pub enum VStmt {
-    /// `target = value;` where it acts at once, else `target <= value;`
+    /// `target = value;` where it is blocking, else `target <= value;`
     Assign {
         target: VTarget,
-        at_once: bool,
+        blocking: bool,
         value: ExprId,
     },
     /// `if (cond) begin`, `so`, `end else begin`, `other`, `end`
@@ -131,21 +131,24 @@ impl Node for VExpr {
 
     fn below(&self, n: usize) -> bool {
         match self {
-            VExpr::Net(_) | VExpr::Literal(_) | VExpr::Select { .. } => true,
+            VExpr::Net(_) | VExpr::Literal(_) | VExpr::PartSelect { .. } => true,
             VExpr::Word { index, .. } => index.place < n,
             VExpr::Unary { of, .. }
-            | VExpr::Repeat { of, .. }
+            | VExpr::Replication { of, .. }
             | VExpr::ToSigned(of)
             | VExpr::ToUnsigned(of) => of.place < n,
             VExpr::Binary { left, right, .. } => left.place < n && right.place < n,
-            VExpr::Choose { cond, so, other } => cond.place < n && so.place < n && other.place < n,
-            VExpr::Concat { first, more } => first.place < n && exprs_below(more.as_slice(), n),
+            VExpr::Conditional { cond, so, other } => cond.place < n
+                && so.place < n
+                && other.place < n,
+            VExpr::Concatenation { first, more } => first.place < n
+                && exprs_below(more.as_slice(), n),
         }
     }
 }
 
-/// Whether all these places are lower than `n`.
-pub fn exprs_below(ids: &[ExprId], n: usize) -> bool
+// Whether all these places are lower than `n`.
+fn exprs_below(ids: &[ExprId], n: usize) -> bool
     ensures { result ≡ are_below ids.now n }
 {
     for id in ids {
@@ -178,8 +181,8 @@ impl Node for VStmt {
     }
 }
 
-/// Whether all these places are lower than `n`.
-pub fn stmts_below(ids: &[StmtId], n: usize) -> bool
+// Whether all these places are lower than `n`.
+pub(crate) fn stmts_below(ids: &[StmtId], n: usize) -> bool
     ensures { result ≡ are_stmts_below ids.now n }
 {
     for id in ids {

@@ -1,6 +1,6 @@
 //! Whether the places that parts name are places of their arenas.
 
-ghost use Rattle.std.specs.Prelude.{◌≡◌, List, length, IsTrue, IfSome, slice_get};
+ghost use Rattle.std.specs.Prelude.{◌≡◌, ◌↔◌, List, length, IsTrue, IfSome, slice_get};
 ghost use Rattle.std.specs.List.{list_all};
 ghost use Rattle.lx_vtree.specs.Stmts.{is_stmt_placed, is_target_placed, StmtsPlaced};
 ghost use Rattle.lx_vtree.specs.Modules.{ArePlaced, are_assigns_placed, are_blocks_placed, are_placed_stmts, are_parts_placed};
@@ -8,9 +8,9 @@ ghost use Rattle.lx_vtree.specs.Modules.{ArePlaced, are_assigns_placed, are_bloc
 use crate::modules::{Always, Assign, Parts};
 use crate::nodes::{VStmt, VTarget, stmts_below};
 
-/// Whether every place that the parts name is one of their arenas.
+/// Whether every place that the parts name is one of their arenas: what the text of a module asks of its places.
 pub fn are_placed(parts: &Parts) -> bool
-    ensures { IsTrue result → ArePlaced parts.now }
+    ensures { IsTrue result ↔ ArePlaced parts.now }
 {
     places_hold(parts)
 }
@@ -23,8 +23,8 @@ fn places_hold(parts: &Parts) -> bool
         && blocks_placed(parts.always.as_slice(), parts.stmts.len())
 }
 
-/// Whether the places of a statement's expressions are lower than `n`.
-pub fn stmt_placed(stmt: &VStmt, n: usize) -> bool
+// Whether the places of a statement's expressions are lower than `n`.
+fn stmt_placed(stmt: &VStmt, n: usize) -> bool
     ensures { result ≡ is_stmt_placed n stmt.now }
 {
     match stmt {

@@ -7,6 +7,7 @@ ghost use Rattle.lx_circuit.specs.Shapes.{binary_fault, binary_shape, bits_sum, 
 ghost use Rattle.lx_fhdl.specs.Below.{all_below, expr_below};
 ghost use Rattle.lx_fhdl.specs.Nodes.{HasParts, shape_at, shapes_at};
 ghost use Rattle.lx_width.specs.Width.{NamesBelow, node_result, shaped, signal_shape};
+ghost use Rattle.lx_width.specs.Worked.{AreWorked};
 
 use lx_circuit::WidthFault;
 use lx_fhdl::{Expr, ExprId, SigId, Signal};
@@ -130,7 +131,7 @@ fn binary(op: Op, a: Shape, b: Shape) -> Result<Shape, WidthFault>
     }
 }
 
-/// The shape of a constant.
+/// A stated shape.
 fn constant(bits: u32, signed: bool) -> Result<Shape, WidthFault>
     ensures { result ≡ shaped (constant_fault (shape bits signed)) (shape bits signed) }
 {
@@ -260,8 +261,14 @@ pub fn node_shape(node: &Expr, shapes: &[Shape], signals: &[Signal]) -> Result<S
         Expr::Pick { items, index } => pick(items.as_slice(), shape_of(shapes, *index), shapes),
         Expr::Replicate { of, count } => replicate(shape_of(shapes, *of), *count),
         Expr::Slice { of, low, high } => slice(shape_of(shapes, *of), *low, *high),
+        Expr::Fetch { width, .. } => constant(*width as u32, false),
     }
 }
+
+/// Shapes and faults of operators, worked by hand.
+pub fn widths_are_worked()
+    ensures { AreWorked }
+{}
 
 #[cfg(test)]
 mod tests {
@@ -290,91 +297,6 @@ mod tests {
     }
 
     #[test]
-    fn operators_of_two_operands(rt: HostRuntime) {
-        let rows = [
-            (Op::Add, unsigned(4), unsigned(4), Ok(unsigned(5))),
-            (Op::Add, signed(4), unsigned(4), Ok(signed(6))),
-            (Op::Sub, unsigned(4), unsigned(4), Ok(signed(5))),
-            (Op::Sub, unsigned(8), signed(4), Ok(signed(10))),
-            (Op::Mul, signed(4), signed(4), Ok(signed(8))),
-            (Op::Mul, unsigned(4), signed(4), Ok(signed(9))),
-            (
-                Op::Mul,
-                unsigned(64),
-                unsigned(64),
-                Err(WidthFault::TooWide(128)),
-            ),
-            (Op::Shl, unsigned(64), unsigned(6), Ok(unsigned(127))),
-            (
-                Op::Shl,
-                unsigned(64),
-                unsigned(7),
-                Err(WidthFault::TooWide(191)),
-            ),
-            (
-                Op::Shl,
-                unsigned(64),
-                unsigned(64),
-                Err(WidthFault::TooWide(4294967295)),
-            ),
-            (
-                Op::Shl,
-                unsigned(1),
-                signed(1),
-                Err(WidthFault::SignedShift),
-            ),
-            (Op::Shr, signed(4), unsigned(127), Ok(signed(4))),
-            (Op::Shr, signed(4), signed(2), Err(WidthFault::SignedShift)),
-            (Op::And, unsigned(4), signed(4), Ok(signed(5))),
-            (Op::Xor, unsigned(3), unsigned(4), Ok(unsigned(4))),
-            (Op::Lt, signed(4), unsigned(4), Ok(unsigned(1))),
-            (
-                Op::Eq,
-                unsigned(127),
-                signed(1),
-                Err(WidthFault::TooWide(128)),
-            ),
-            (
-                Op::Add,
-                unsigned(127),
-                signed(4),
-                Err(WidthFault::TooWide(128)),
-            ),
-            (
-                Op::Add,
-                unsigned(127),
-                unsigned(4),
-                Err(WidthFault::TooWide(128)),
-            ),
-        ];
-        for (op, a, b, expected) in rows {
-            assert_eq!(rt; binary(op, a, b), expected);
-        }
-    }
-
-    #[test]
-    fn other_forms(rt: HostRuntime) {
-        assert_eq!(rt; unary(Op::Neg, unsigned(4)), Ok(signed(5)));
-        assert_eq!(rt; unary(Op::Neg, signed(127)), Err(WidthFault::TooWide(128)));
-        assert_eq!(rt; unary(Op::Not, signed(4)), Ok(signed(4)));
-        assert_eq!(rt; constant(0, false), Err(WidthFault::BadWidth));
-        assert_eq!(rt; constant(128, true), Err(WidthFault::TooWide(128)));
-        assert_eq!(rt;
-            constant(4294967295, true),
-            Err(WidthFault::TooWide(4294967295))
-        );
-        assert_eq!(rt; replicate(unsigned(4), 0), Err(WidthFault::BadWidth));
-        assert_eq!(rt; replicate(signed(4), 3), Ok(unsigned(12)));
-        assert_eq!(rt;
-            replicate(unsigned(64), 4294967295),
-            Err(WidthFault::TooWide(4294967295))
-        );
-        assert_eq!(rt; slice(signed(8), 4, 8), Ok(unsigned(4)));
-        assert_eq!(rt; slice(unsigned(8), 4, 4), Err(WidthFault::BadSlice));
-        assert_eq!(rt; slice(unsigned(8), 4, 9), Err(WidthFault::BadSlice));
-    }
-
-    #[test]
     fn nodes(rt: HostRuntime) {
         let shapes = [signed(4), unsigned(4)];
         let mux = Expr::Mux {
@@ -389,5 +311,11 @@ mod tests {
             right: id(1),
         };
         assert_eq!(rt; node_shape(&sum, &shapes, &[]), Ok(signed(6)));
+        let word = Expr::Fetch {
+            memory: 0,
+            width: 9,
+            at: id(1),
+        };
+        assert_eq!(rt; node_shape(&word, &shapes, &[]), Ok(unsigned(9)));
     }
 }

@@ -1,8 +1,9 @@
 -- A module that agrees with the lowered circuit agrees with the circuit, and has its ports.
 use Rattle.std.proofs.Common.{◌≡◌, ℕ, ◌+◌, ◌<◌, List, [], ◌∷◌, map, length, Option, Some, None, refl, sym, ap, ◌∙◌, arith}
 use Rattle.std.proofs.lemmas.List.{length-map}
-use Rattle.lx_circuit.specs.Values.{Values}
-use Rattle.lx_circuit.specs.Circuit.{Circuit, Domain, Step, Role, Input, role, shapes, InputsFit, StepsFit}
+use Rattle.lx_circuit.specs.Places.{Values}
+use Rattle.lx_circuit.specs.Circuit.{Circuit, Domain, Step, Role, Input, role, shapes}
+use Rattle.lx_circuit.specs.Fitting.{InputsFit, StepsFit}
 use Rattle.lx_circuit.specs.Reads.{HasOrder}
 use Rattle.lx_circuit.proofs.Views.{viewed_once}
 use Rattle.lx_vtext.specs.Tree.{Name, VModule}
@@ -48,9 +49,12 @@ same_run c names low steps inputs v_steps v_inputs run = record {
 pub agrees_over : (c : Circuit) (m : VModule) (names : Naming) → Lowers c (lowered c) → HasOrder c → Agrees (lowered c) m names → Agrees c m names
 unfolding lowered
 agrees_over c m names low order agrees = record {
+  declares = record { nets = agrees.declares.nets; memories = agrees.declares.memories };
   view = λ steps inputs. let once = viewed_once c order steps inputs in (once.values, once.view);
   v_view = agrees.v_view;
-  same = λ steps inputs v_steps v_inputs run v w view v_view x lt. agrees.same steps inputs v_steps v_inputs (same_run c names low steps inputs v_steps v_inputs run) v w (low.runs.there steps inputs run.fitting_steps run.fitting_inputs v view) v_view x lt;
+  same = λ steps inputs v_steps v_inputs run v w view v_view.
+      let same = agrees.same steps inputs v_steps v_inputs (same_run c names low steps inputs v_steps v_inputs run) v w (low.runs.there steps inputs run.fitting_steps run.fitting_inputs v view) v_view in
+      record { signals = same.signals; words = same.words };
 }
 
 -- ---- ports

@@ -1,18 +1,25 @@
 -- A lowered design can be emitted where the design can be written, and its module is the design's.
-use Rattle.std.proofs.Common.{◌≡◌, ℕ, ◌<◌, Bool, false, ◌||◌, List, [], ◌∷◌, map, length, refl, sym, ap, subst, ◌∙◌}
+use Rattle.std.proofs.Common.{◌≡◌, ℕ, ◌+◌, ◌<◌, arith, Bool, false, ◌||◌, List, [], ◌∷◌, map, length, refl, sym, ap, subst, ◌∙◌}
 use Rattle.std.specs.Prelude.{slice_get, IsTrue}
+use Rattle.std.proofs.lemmas.List.{length-map}
 use Rattle.lx_circuit.specs.Circuit as circuit
 use Rattle.lx_circuit.specs.Circuit.{Circuit}
 use Rattle.lx_circuit.specs.Reads.{HasOrder}
 use Rattle.lx_vtext.specs.Tree.{Name, VModule}
 use Rattle.lx_agree.specs.Agreement.{Naming, Agrees, HasPorts}
-use Rattle.lx_fhdl.specs.Designs.{circuit_of}
+use Rattle.lx_fhdl.specs.Designs.{circuit_of, memory_of, port_of}
+use Rattle.lx_fhdl.specs.Keeping.{EachOf, IsPort, Keeps, NamesThere}
+use Rattle.lx_fhdl.specs.declared.exprs.Expr.{Expr}
+use Rattle.lx_fhdl.specs.declared.exprs.Expr.TheVariants.{Const, Sig, Unary, Binary, Mux, Cat, Pick, Replicate, Slice, Fetch}
+use Rattle.lx_fhdl.specs.declared.design.Memory.{Memory}
+use Rattle.lx_fhdl.specs.declared.design.Port.{Port}
+use Rattle.lx_fhdl.specs.declared.design.Signal.{Signal}
 use Rattle.lx_fhdl.specs.declared.design.Domain.{Domain}
 use Rattle.lx_fhdl.specs.declared.design.Design.{Design}
 use Rattle.lx_lowering.specs.Lowering.{Lowers, lowered, lowered_domain}
 use Rattle.lx_lower.specs.Lowers.{IsLoweringOf}
 use Rattle.lx_emission.specs.Naming.{net, clock_of, naming, is_among, NamesFit}
-use Rattle.lx_emission.specs.Emits.{are_once, none_is_reset, PortsFit, CanBeEmitted, Emits}
+use Rattle.lx_emission.specs.Emits.{are_once, none_is_reset, HasIndex, PortsFit, ShowsNothing, IsWithFirst, MemoriesFit, CanBeEmitted, Emits}
 use Rattle.lx_write.specs.Writes.{CanBeWritten, Writes}
 use Rattle.lx_write.proofs.Over.{agrees_over, ports_over}
 
@@ -22,7 +29,7 @@ lowers d e low = subst (Lowers (circuit_of d)) low.circuit low.lowers
 
 resets_same : (c : Circuit) (x : ℕ) (ds : List circuit.Domain) → circuit.is_some_reset x (map (lowered_domain c) ds) ≡ circuit.is_some_reset x ds
 resets_same c x [] = refl
-resets_same c x (d ∷ ds) = ap (λ (b : Bool). circuit.is_reset_name x d.reset || b) (resets_same c x ds)
+resets_same c x (d ∷ ds) = ap (λ (b : Bool). circuit.is_named x d.reset || b) (resets_same c x ds)
 
 none_same : (c : Circuit) (xs : List ℕ) (ds : List circuit.Domain) → none_is_reset xs (map (lowered_domain c) ds) ≡ none_is_reset xs ds
 none_same c [] ds = refl
@@ -42,14 +49,47 @@ ports_fit d e low fit = record {
   resets = subst (λ c. IsTrue (none_is_reset c.ios c.domains)) (sym low.circuit) (lowered_ports (circuit_of d) fit.resets);
 }
 
+memories_long : (d e : Design) → IsLoweringOf d e → length e.memories ≡ length d.memories
+unfolding circuit_of lowered
+memories_long d e low = sym (length-map e.memories memory_of) ∙ ap (λ c. length c.memories) low.circuit ∙ length-map d.memories memory_of
+
 names_fit : (d e : Design) (names : List Name) → IsLoweringOf d e → NamesFit d names → NamesFit e names
 names_fit d e names low fit = record {
-  long = fit.long ∙ sym (ap length low.signals);
+  long = omega (arith, fit.long, ap length low.signals, memories_long d e low);
   lawful = fit.lawful;
   distinct = fit.distinct;
   clocks = subst (λ (ds : List Domain). (k : ℕ) → k < length ds → is_among (clock_of (slice_get ds k)) names ≡ false) (sym low.domains) fit.clocks;
   nodes = fit.nodes;
 }
+
+-- without memories nothing is read
+no_index : (e : Design) (ms : List Memory) (x : Expr) → length ms ≡ 0 → NamesThere (length e.signals) ms x → HasIndex e x
+no_index e [] (Fetch memory width at) z h = absurd h
+no_index e (m ∷ ms) (Fetch memory width at) z h = absurd (omega arith)
+no_index e ms (Const value bits signed) z h = tt
+no_index e ms (Sig x) z h = tt
+no_index e ms (Unary op of) z h = tt
+no_index e ms (Binary op left right) z h = tt
+no_index e ms (Mux cond then_ else_) z h = tt
+no_index e ms (Cat parts) z h = tt
+no_index e ms (Pick items index) z h = tt
+no_index e ms (Replicate of count) z h = tt
+no_index e ms (Slice of low high) z h = tt
+
+-- and no port stands
+no_ports : (d : Design) (qs : List Port) → length d.memories ≡ 0 → EachOf (IsPort d) qs → qs ≡ []
+no_ports d [] z h = refl
+no_ports d (q ∷ qs) z h = absurd (omega (arith, z, h.0.memory))
+
+memories_fit : (e : Design) → Keeps e → length e.memories ≡ 0 → MemoriesFit e
+unfolding circuit_of
+memories_fit e keeps z =
+    let none : map port_of e.ports ≡ [] = ap (map port_of) (no_ports e e.ports z keeps.ports) in
+    record {
+      show_nothing = subst (EachOf ShowsNothing) (sym none) tt;
+      one_domain = subst (λ qs. EachOf (IsWithFirst qs) qs) (sym none) tt;
+      indices = λ k x there. no_index e e.memories x z (keeps.arenas.named k x there);
+    }
 
 pub can_be_emitted : (d e : Design) (names : List Name) → IsLoweringOf d e → CanBeWritten d names → CanBeEmitted e names
 can_be_emitted d e names low can = record {
@@ -58,13 +98,14 @@ can_be_emitted d e names low can = record {
   order = subst HasOrder (sym low.circuit) ((lowers d e low).order can.order);
   named = names_fit d e names low can.named;
   ports = ports_fit d e low can.ports;
+  memories = memories_fit e low.keeps (memories_long d e low ∙ can.no_memories);
 }
 
 naming_same : (d e : Design) (names : List Name) → IsLoweringOf d e → naming e names ≡ naming d names
-naming_same d e names low = ap (λ (ds : List Domain). the_naming names ds) low.domains
+naming_same d e names low = ap (λ (ds : List Domain). the_naming names ds (length e.signals)) low.domains ∙ ap (λ (ss : List Signal). the_naming names d.domains (length ss)) low.signals
   where
-    the_naming : List Name → List Domain → Naming
-    the_naming ns ds = record { net = λ x. net ns x; clock = λ k. clock_of (slice_get ds k) }
+    the_naming : List Name → List Domain → ℕ → Naming
+    the_naming ns ds n = record { net = λ x. net ns x; clock = λ k. clock_of (slice_get ds k); memory = λ k. net ns (n + k) }
 
 pub writes : (d e : Design) (names : List Name) (m : VModule) → IsLoweringOf d e → CanBeWritten d names → Emits e names m → Writes d names m
 writes d e names m low can emits =
@@ -78,6 +119,6 @@ writes d e names m low can emits =
       agrees = agrees_over c m (naming d names) (lowers d e low) can.order agrees;
     }
 
--- a lowered design that can be emitted can be written too
-pub written_from_emitted : (d : Design) (names : List Name) → CanBeEmitted d names → CanBeWritten d names
-written_from_emitted d names can = record { keeps = can.keeps; order = can.order; named = can.named; ports = can.ports }
+-- a lowered design without memories that can be emitted can be written too
+pub written_from_emitted : (d : Design) (names : List Name) → length d.memories ≡ 0 → CanBeEmitted d names → CanBeWritten d names
+written_from_emitted d names none can = record { keeps = can.keeps; order = can.order; named = can.named; ports = can.ports; no_memories = none }

@@ -1,5 +1,5 @@
 -- What the module of a design is, by way of its lowered design.
-use Rattle.std.specs.Prelude.{List}
+use Rattle.std.specs.Prelude.{◌≡◌, List, length}
 use Rattle.lx_circuit.specs.Reads.{HasOrder}
 use Rattle.lx_vtext.specs.Tree.{Name, VModule}
 use Rattle.lx_vtext.specs.Fits.{IsModule}
@@ -11,12 +11,13 @@ use Rattle.lx_fhdl.specs.declared.design.Design.{Design}
 use Rattle.lx_emission.specs.Naming.{NamesFit, naming}
 use Rattle.lx_emission.specs.Emits.{PortsFit}
 
--- A design that can be written: its reads have an order, its nets have names, and its ports stand once.
+-- A design that can be written: its reads have an order, its nets have names, its ports stand once, and it has no memories yet.
 pub record CanBeWritten (d : Design) (names : List Name) : Type 0 where
   pub keeps : Keeps d
   pub order : HasOrder (circuit_of d)
   pub named : NamesFit d names
   pub ports : PortsFit d
+  pub no_memories : length d.memories ≡ 0
 
 -- The module has a text and a cycle meaning, the design's ports, and after every list of steps the number of each signal.
 pub record Writes (d : Design) (names : List Name) (m : VModule) : Type 0 where

@@ -1,5 +1,5 @@
-use Rattle.lx_emission.proofs.Branched.{can}
+use Rattle.lx_emission.proofs.Instances.{branched_can}
 use Rattle.lx_emission.proofs.branched_law.Goals as goal
 
 pub returns : goal.returns
-returns c = can
+returns c = branched_can

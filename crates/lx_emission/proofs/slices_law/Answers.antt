@@ -1,5 +1,5 @@
-use Rattle.lx_emission.proofs.Slices.{can}
+use Rattle.lx_emission.proofs.Instances.{slices_can}
 use Rattle.lx_emission.proofs.slices_law.Goals as goal
 
 pub returns : goal.returns
-returns c = can
+returns c = slices_can

@@ -1,5 +1,5 @@
-use Rattle.lx_emission.proofs.Swap.{can}
+use Rattle.lx_emission.proofs.Instances.{swap_can}
 use Rattle.lx_emission.proofs.swap_law.Goals as goal
 
 pub returns : goal.returns
-returns c = can
+returns c = swap_can

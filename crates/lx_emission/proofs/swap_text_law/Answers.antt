@@ -1,5 +1,5 @@
-use Rattle.lx_emission.proofs.Swap.{text}
+use Rattle.lx_emission.proofs.Instances.{swap_is}
 use Rattle.lx_emission.proofs.swap_text_law.Goals as goal
 
 pub returns : goal.returns
-returns c = text
+returns c = swap_is

@@ -8,6 +8,8 @@ returns c = record {
   picked = refl;
   picked_by_bit = refl;
   picked_inside = refl;
+  word = refl;
+  word_assigned = refl;
   shifted_far = refl;
   shifted_out = refl;
   shifted_near = refl;
@@ -36,5 +38,6 @@ returns c = record {
   no_constant = refl;
   read_value = refl;
   read_condition = refl;
+  read_word = refl;
   circuit = refl;
 }

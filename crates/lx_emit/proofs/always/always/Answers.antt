@@ -1,21 +1,8 @@
-use Rattle.std.proofs.Common.{◌<◌, ◌≤◌, length, arith}
-use Rattle.lx_emit.proofs.Driven.{there_at, plain_at, always_line}
-use Rattle.lx_emit.proofs.Blocked.{always_next, always_end}
+use Rattle.lx_emit.proofs.Blocked.{always_more}
 use Rattle.lx_emit.proofs.always.always.Goals as goal
 
-pub put_signal-requires-clause-there : goal.put_signal-requires-clause-there
-put_signal-requires-clause-there c = there_at _ _ _ _ c.requires.sheet.keeps c.requires.drives c.loop-x-test.true c.index-drives-x.is
-
-pub put_signal-requires-clause-plain : goal.put_signal-requires-clause-plain
-put_signal-requires-clause-plain c = plain_at _ _ _ _ c.requires.lowered c.requires.drives c.loop-x-test.true c.index-drives-x.is
-
-pub loop-x-preserved : goal.loop-x-preserved
-loop-x-preserved c =
-    let within : c.loop-x.x < length c.args.sheet.now.design.now.signals = omega arith in
-    let line = always_line _ c.args.sheet.now.names.now _ _ _ c.requires.drives c.loop-x-test.true c.index-drives-x.is in
-    always_next _ _ _ _ _ _ _ _ _ _ _ _ within c.loop-x.invariant (rw line at c.in_ok-put_signal.ensures)
+pub put_memories-requires : goal.put_memories-requires
+put_memories-requires c = record { stmts = c.in_ok-put_signals.ensures.grows.placed; blocks = c.in_ok-put_signals.ensures.placed }
 
 pub returns : goal.returns
-returns c =
-    let past : length c.args.sheet.now.design.now.signals ≤ c.loop-x.x = omega arith in
-    rw (← c.new-blocks.ensures) (always_end _ _ _ _ _ _ _ _ _ past c.loop-x.invariant)
+returns c = rw (← c.new-blocks.ensures) (always_more _ _ _ _ _ _ _ _ _ _ _ c.in_ok-put_signals.ensures c.in_ok-put_memories.ensures)

@@ -4,10 +4,10 @@ use Rattle.lx_emit.proofs.assigns.put_nodes.Goals as goal
 
 pub loop-place-preserved : goal.loop-place-preserved
 loop-place-preserved c =
-    let within : c.loop-place.place < length c.args.sheet.now.design.now.exprs = omega arith in
+    let within : c.loop-place.place < length c.args.sheet.now.design.exprs = rw (← c.sheet.view_is) (omega arith) in
     assigns_next _ _ _ _ _ _ _ _ _ within c.loop-place.invariant c.in_ok-put_node_assign.ensures
 
 pub returns : goal.returns
 returns c =
-    let past : length c.args.sheet.now.design.now.exprs ≤ c.loop-place.place = omega arith in
+    let past : length c.args.sheet.now.design.exprs ≤ c.loop-place.place = rw (← c.sheet.view_is) (omega arith) in
     assigns_end _ _ _ _ _ _ _ past c.loop-place.invariant

@@ -1,13 +1,24 @@
-use Rattle.std.proofs.Common.{refl}
-use Rattle.lx_emit.proofs.Assigned.{assigns_push}
+use Rattle.std.proofs.Common.{sym, ap, ◌∙◌}
+use Rattle.lx_emit.specs.Drives.{drive_of}
+use Rattle.lx_emit.proofs.Assigned.{assigns_empty, assigns_push}
+use Rattle.lx_emit.proofs.Driven.{assign_line, no_assign}
 use Rattle.lx_emit.proofs.assigns.put_signal_assign.Goals as goal
 
-pub returns-in_ok-value-in-Held : goal.returns-in_ok-value-in-Held
-returns-in_ok-value-in-Held c =
-    rw c.in-Held.is
-    (assigns_push _ _ _ _ _ _ _ _ _ c.requires.placed c.in_ok-value-in-Held.ensures c.in_ok-name-in-Held.ensures refl c.push.ensures.ok)
+pub returns-in_ok-value-in-Undriven : goal.returns-in_ok-value-in-Undriven
+returns-in_ok-value-in-Undriven c =
+    let line = ap drive_of (sym c.in-Undriven.is) ∙ c.drive_of.ensures.drive in
+    assigns_push _ _ _ _ _ _ _ _ _ c.requires.placed c.in_ok-value-in-Undriven.ensures c.in_ok-name-in-Undriven.ensures (assign_line _ c.args.sheet.now.names _ _ line) c.push.ensures.ok
 
-pub returns-in_ok-value-in-Equal : goal.returns-in_ok-value-in-Equal
-returns-in_ok-value-in-Equal c =
-    rw c.in-Equal.is
-    (assigns_push _ _ _ _ _ _ _ _ _ c.requires.placed c.in_ok-value-in-Equal.ensures c.in_ok-name-in-Equal.ensures refl c.push-in-Equal.ensures.ok)
+pub returns-in_ok-value-in-CombAssign : goal.returns-in_ok-value-in-CombAssign
+returns-in_ok-value-in-CombAssign c =
+    let line = ap drive_of (sym c.in-CombAssign.is) ∙ c.drive_of.ensures.drive in
+    assigns_push _ _ _ _ _ _ _ _ _ c.requires.placed c.in_ok-value-in-CombAssign.ensures c.in_ok-name-in-CombAssign.ensures (assign_line _ c.args.sheet.now.names _ _ line) c.push-in-CombAssign.ensures.ok
+
+pub returns-in-Input : goal.returns-in-Input
+returns-in-Input c = assigns_empty _ _ _ c.requires.placed (no_assign _ c.args.sheet.now.names _ _ c.in-Input.is ∙ assign_line _ c.args.sheet.now.names _ _ c.drive_of.ensures.drive)
+
+pub returns-in-Input-2 : goal.returns-in-Input-2
+returns-in-Input-2 c = assigns_empty _ _ _ c.requires.placed (no_assign _ c.args.sheet.now.names _ _ c.in-Input.is ∙ assign_line _ c.args.sheet.now.names _ _ c.drive_of.ensures.drive)
+
+pub returns-in-Input-3 : goal.returns-in-Input-3
+returns-in-Input-3 c = assigns_empty _ _ _ c.requires.placed (no_assign _ c.args.sheet.now.names _ _ c.in-Input.is ∙ assign_line _ c.args.sheet.now.names _ _ c.drive_of.ensures.drive)

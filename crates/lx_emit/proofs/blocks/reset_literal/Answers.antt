@@ -6,9 +6,11 @@ use Rattle.lx_emit.proofs.Resets.{reset_is, literal_same}
 use Rattle.lx_emit.proofs.blocks.reset_literal.Goals as goal
 
 pub returns-clause-text : goal.returns-clause-text
-returns-clause-text c = let f : FitsSigned w128 c.at-signal.result.now.reset = search rules in rw (to_z-of_z w128 c.at-signal.result.now.reset f) at c.constant.ensures ∙ reset_is c.args.sheet.now.design.now _ _ c.at-signal.ensures
+returns-clause-text c =
+    let f : FitsSigned w128 c.at-signal.result.now.reset = search rules in
+    rw (← c.sheet.view_is) (rw (to_z-of_z w128 c.at-signal.result.now.reset f) at c.constant.ensures ∙ reset_is _ _ _ c.at-signal.ensures)
 
 pub returns-clause-value : goal.returns-clause-value
 returns-clause-value c =
     let f : FitsSigned w128 c.at-signal.result.now.reset = search rules in
-    literal_same _ _ _ (rw (to_z-of_z w128 c.at-signal.result.now.reset f) at c.constant.ensures ∙ reset_is c.args.sheet.now.design.now _ _ c.at-signal.ensures)
+    rw (← c.sheet.view_is) (literal_same _ _ _ (rw (to_z-of_z w128 c.at-signal.result.now.reset f) at c.constant.ensures ∙ reset_is c.sheet.inside.design.now _ _ c.at-signal.ensures))

@@ -2,10 +2,10 @@ use Rattle.lx_emit.proofs.Resets.{no_reset, some_reset, reset_there}
 use Rattle.lx_emit.proofs.blocks.reset_of.Goals as goal
 
 pub returns-then-at-clause-block : goal.returns-then-at-clause-block
-returns-then-at-clause-block c = no_reset c.args.sheet.now.design.now _ _ _ _ c.at.ensures c.if-at.true
+returns-then-at-clause-block c = rw (← c.sheet.view_is) (no_reset c.sheet.inside.design.now _ _ _ _ c.at.ensures c.if-at.true)
 
 pub returns-else-at-clause-block : goal.returns-else-at-clause-block
-returns-else-at-clause-block c = some_reset c.args.sheet.now.design.now _ _ _ _ _ c.at.ensures c.if-at.false c.at-else-at.ensures
+returns-else-at-clause-block c = rw (← c.sheet.view_is) (some_reset c.sheet.inside.design.now _ _ _ _ _ c.at.ensures c.if-at.false c.at-else-at.ensures)
 
 pub returns-else-at-clause-there : goal.returns-else-at-clause-there
-returns-else-at-clause-there c = reset_there _ _ _ c.requires.sheet.keeps c.at-else-at.ensures
+returns-else-at-clause-there c = rw (← c.sheet.view_is) (reset_there _ _ _ c.sheet.invariant.keeps c.at-else-at.ensures)

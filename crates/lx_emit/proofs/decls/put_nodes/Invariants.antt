@@ -5,4 +5,4 @@ use Rattle.lx_emit.proofs.Lines.{pieces}
 use Rattle.lx_emit.proofs.decls.put_nodes.Given as goal
 
 abbrev pub invariant-loop-place : goal.invariant-loop-place
-invariant-loop-place l = map decl_of l.decls ≡ map decl_of l.initial.decls ++ pieces (node_decl l.sheet.design.now l.sheet.names.now) l.sheet.design.now.exprs l.place
+invariant-loop-place l = map decl_of l.decls ≡ map decl_of l.initial.decls ++ pieces (node_decl l.sheet.design l.sheet.names) l.sheet.design.exprs l.place

@@ -5,4 +5,4 @@ use Rattle.lx_emit.proofs.Lines.{pieces}
 use Rattle.lx_emit.proofs.decls.put_signals.Given as goal
 
 abbrev pub invariant-loop-x : goal.invariant-loop-x
-invariant-loop-x l = map decl_of l.decls ≡ map decl_of l.initial.decls ++ pieces (inner_decl l.sheet.design.now l.sheet.names.now) l.sheet.design.now.signals l.x
+invariant-loop-x l = map decl_of l.decls ≡ map decl_of l.initial.decls ++ pieces (inner_decl l.sheet.design l.sheet.names) l.sheet.design.signals l.x

@@ -3,12 +3,11 @@ use Rattle.std.specs.Prelude.{Some}
 use Rattle.lx_fhdl.specs.Designs.{stmt}
 use Rattle.lx_fhdl.specs.Lowered.{is_for}
 use Rattle.lx_emit.specs.Drives.{first_inside}
-use Rattle.lx_emit.proofs.Plain.{for_drives}
 use Rattle.lx_emit.proofs.Inside.{plain_assign, assign_for, no_case, if_there, if_below, if_plain, if_first}
 use Rattle.lx_emit.proofs.drives.+signal_of.Goals as goal
 
 pub signal_of_target-requires-clause-place : goal.signal_of_target-requires-clause-place
-signal_of_target-requires-clause-place t c = (c.requires.keeps.stmts c.args.id.place _ (c.get.ensures.item ∙ ap Some c.in-Assign.is)).0
+signal_of_target-requires-clause-place t c = (c.requires.keeps.arenas.stmts c.args.id.place _ (c.get.ensures.item ∙ ap Some c.in-Assign.is)).0
 
 pub signal_of_target-requires-clause-plain : goal.signal_of_target-requires-clause-plain
 signal_of_target-requires-clause-plain t c =
@@ -32,13 +31,10 @@ unreachable-requires t c = no_case c.args.design.now c.args.id.place c.in-Case.o
 
 assigned : (t : ℕ) (c : goal.After-signal_of_target t) → is_for c.signal_of_target.result.0 (stmt c.args.design.now c.args.id.place) ≡ true
 assigned t c =
-    assign_for c.args.design.now c.args.id.place c.signal_of_target.result.0 c.in-Assign.target _ _ c.requires.keeps (c.get.ensures.item ∙ ap Some c.in-Assign.is) ∙ c.signal_of_target.ensures
+    assign_for c.args.design.now c.args.id.place c.signal_of_target.result.0 c.in-Assign.target _ _ c.requires.keeps (c.get.ensures.item ∙ ap Some c.in-Assign.is) ∙ c.signal_of_target.ensures.alone
 
 pub returns-in-Assign-clause-alone : goal.returns-in-Assign-clause-alone
 returns-in-Assign-clause-alone t c = assigned t c
-
-pub returns-in-Assign-clause-drives : goal.returns-in-Assign-clause-drives
-returns-in-Assign-clause-drives t c y = for_drives c.signal_of_target.result.0 y (stmt c.args.design.now c.args.id.place) (assigned t c)
 
 followed : (t : ℕ) (c : goal.After-signal_of t) → is_for c.signal_of.result.0 (stmt c.args.design.now c.args.id.place) ≡ true
 followed t c =
@@ -47,6 +43,3 @@ followed t c =
 
 pub returns-in-If-clause-alone : goal.returns-in-If-clause-alone
 returns-in-If-clause-alone t c = followed t c
-
-pub returns-in-If-clause-drives : goal.returns-in-If-clause-drives
-returns-in-If-clause-drives t c y = for_drives c.signal_of.result.0 y (stmt c.args.design.now c.args.id.place) (followed t c)

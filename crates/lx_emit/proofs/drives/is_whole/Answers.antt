@@ -4,7 +4,7 @@ use Rattle.lx_emit.proofs.Owners.{shape_is, covers_is}
 use Rattle.lx_emit.proofs.drives.is_whole.Goals as goal
 
 pub at-requires : goal.at-requires
-at-requires c = (c.requires.keeps.targets c.args.id.place _ (c.get.ensures.item ∙ ap Some c.in-Part.is)).0
+at-requires c = (c.requires.keeps.arenas.targets c.args.id.place _ (c.get.ensures.item ∙ ap Some c.in-Part.is)).0
 
 pub returns-then-low-eq0 : goal.returns-then-low-eq0
 returns-then-low-eq0 c =

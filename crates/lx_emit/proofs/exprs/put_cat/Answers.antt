@@ -3,13 +3,13 @@ use Rattle.lx_width.proofs.Widths.{part_there}
 use Rattle.lx_emit.proofs.Puts.{if_ok, all_taken, cat_is}
 use Rattle.lx_emit.proofs.exprs.put_cat.Goals as goal
 
-pub put_operand-requires-clause-place : goal.put_operand-requires-clause-place
-put_operand-requires-clause-place c =
+pub put_operand-requires : goal.put_operand-requires
+put_operand-requires c =
     let h : length c.args.parts.now - 1 < length c.args.parts.now = omega arith in
-    part_there (length c.args.sheet.now.design.now.exprs) c.args.parts.now (length c.args.parts.now - 1) _ c.requires.places h
+    part_there (length c.args.sheet.now.design.exprs) c.args.parts.now (length c.args.parts.now - 1) _ c.requires.places h
 
-pub put_parts-requires-clause-places : goal.put_parts-requires-clause-places
-put_parts-requires-clause-places c = all_taken (length c.args.sheet.now.design.now.exprs) (length c.args.parts.now - 1) c.args.parts.now c.requires.places
+pub put_parts-requires : goal.put_parts-requires
+put_parts-requires c = all_taken (length c.args.sheet.now.design.exprs) (length c.args.parts.now - 1) c.args.parts.now c.requires.places
 
 pub returns : goal.returns
 returns c = if_ok c.add_expr.result _ _ (λ i p. cat_is _ _ _ _ _ _ _ _ _ _ c.requires.some c.in_ok-first.ensures c.in_ok-more.ensures p) c.add_expr.ensures.ok

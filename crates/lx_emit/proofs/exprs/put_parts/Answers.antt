@@ -3,10 +3,10 @@ use Rattle.lx_width.proofs.Widths.{part_there}
 use Rattle.lx_emit.proofs.Puts.{parts_more}
 use Rattle.lx_emit.proofs.exprs.put_parts.Goals as goal
 
-pub put_operand-requires-clause-place : goal.put_operand-requires-clause-place
-put_operand-requires-clause-place c =
+pub put_operand-requires : goal.put_operand-requires
+put_operand-requires c =
     let h : c.loop-place.place - 1 < length c.args.parts.now = omega arith in
-    part_there (length c.args.sheet.now.design.now.exprs) c.args.parts.now (c.loop-place.place - 1) _ c.requires.places h
+    part_there (length c.args.sheet.now.design.exprs) c.args.parts.now (c.loop-place.place - 1) _ c.requires h
 
 pub loop-place-preserved : goal.loop-place-preserved
 loop-place-preserved c =

@@ -5,5 +5,5 @@ use Rattle.lx_emit.proofs.ports.put_domains.Given as goal
 
 abbrev pub invariant-loop-domain : goal.invariant-loop-domain
 invariant-loop-domain l =
-    (l.domain-items ≡ l.sheet.design.now.domains)
-    × (map port_of l.ports ++ domain_ports l.sheet.design.now l.sheet.names.now l.domain-index (drop l.domain-index l.domain-items) ≡ map port_of l.initial.ports ++ domain_ports l.sheet.design.now l.sheet.names.now 0 l.domain-items)
+    (l.domain-items ≡ l.sheet.design.domains)
+    × (map port_of l.ports ++ domain_ports l.sheet.design l.sheet.names l.domain-index (drop l.domain-index l.domain-items) ≡ map port_of l.initial.ports ++ domain_ports l.sheet.design l.sheet.names 0 l.domain-items)

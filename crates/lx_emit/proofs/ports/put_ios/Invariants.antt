@@ -6,5 +6,5 @@ use Rattle.lx_emit.proofs.ports.put_ios.Given as goal
 
 abbrev pub invariant-loop-x : goal.invariant-loop-x
 invariant-loop-x l =
-    (l.x-items ≡ l.sheet.design.now.ios)
-    × (map port_of l.ports ≡ map port_of l.initial.ports ++ map (λ (x : SigId). signal_port l.sheet.design.now l.sheet.names.now x.0) (take l.x-index l.x-items))
+    (l.x-items ≡ l.sheet.design.ios)
+    × (map port_of l.ports ≡ map port_of l.initial.ports ++ map (λ (x : SigId). signal_port l.sheet.design l.sheet.names x.0) (take l.x-index l.x-items))

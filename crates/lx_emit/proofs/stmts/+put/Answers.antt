@@ -12,44 +12,50 @@ pub put_block-returns : goal.put_block-returns
 put_block-returns t c = if_ok c.put_stmts.result _ _ (λ list p. block_put _ _ _ _ _ _ _ _ c.new-list.ensures p) c.put_stmts.ensures
 
 pub put_stmt-put_assign-requires-clause-target : goal.put_stmt-put_assign-requires-clause-target
-put_stmt-put_assign-requires-clause-target t c = (stmt_stands _ _ _ _ c.requires.sheet.keeps c.get.ensures.item c.in-Assign.is).0
+put_stmt-put_assign-requires-clause-target t c = rw (← c.sheet.view_is) (stmt_stands _ _ _ _ c.sheet.invariant.keeps c.get.ensures.item c.in-Assign.is).0
 
 pub put_stmt-put_assign-requires-clause-value : goal.put_stmt-put_assign-requires-clause-value
-put_stmt-put_assign-requires-clause-value t c = (stmt_stands _ _ _ _ c.requires.sheet.keeps c.get.ensures.item c.in-Assign.is).1
+put_stmt-put_assign-requires-clause-value t c = rw (← c.sheet.view_is) (stmt_stands _ _ _ _ c.sheet.invariant.keeps c.get.ensures.item c.in-Assign.is).1
 
 pub put_stmt-put_assign-requires-clause-plain : goal.put_stmt-put_assign-requires-clause-plain
-put_stmt-put_assign-requires-clause-plain t c = plain_assign _ _ _ _ _ c.requires.sheet.keeps (c.get.ensures.item ∙ ap Some c.in-Assign.is) c.requires.plain
+put_stmt-put_assign-requires-clause-plain t c =
+    rw (← c.sheet.view_is) (plain_assign _ _ _ _ _ c.sheet.invariant.keeps (c.get.ensures.item ∙ ap Some c.in-Assign.is) (rw (← c.sheet.view_is) at c.requires.plain))
 
 pub put_stmt-at-branch-requires : goal.put_stmt-at-branch-requires
 put_stmt-at-branch-requires t c =
-    let parts = lone_if _ _ _ _ _ _ c.requires.sheet.keeps c.requires.plain c.get.ensures.item c.get.ensures.lower c.in-If.is in
+    let parts = lone_if _ _ _ _ _ _ c.sheet.invariant.keeps (rw (← c.sheet.view_is) at c.requires.plain) c.get.ensures.item c.get.ensures.lower c.in-If.is in
     omega (arith, ap length parts.lone)
 
 pub put_stmt-put_when-requires : goal.put_stmt-put_when-requires
 put_stmt-put_when-requires t c =
-    let parts = lone_if _ _ _ _ _ _ c.requires.sheet.keeps c.requires.plain c.get.ensures.item c.get.ensures.lower c.in-If.is in
+    let parts = lone_if _ _ _ _ _ _ c.sheet.invariant.keeps (rw (← c.sheet.view_is) at c.requires.plain) c.get.ensures.item c.get.ensures.lower c.in-If.is in
     let one = first_is _ _ _ parts.lone c.at-branch.ensures in
-    (omega arith, (c.requires.sheet, (c.requires.placed, (omega arith, (rw one parts.cond, (rw one parts.body, (rw c.as_slice-rest.ensures parts.below, (rw one parts.plain_body, rw c.as_slice-rest.ensures parts.plain_rest))))))))
+    let within = rw (← c.sheet.view_is) at c.requires.place in
+    rw (← c.sheet.view_is)
+    (omega arith, (c.requires.placed, (omega (arith, within), (rw one parts.cond, (rw one parts.body, (rw c.as_slice-rest.ensures parts.below, (rw one parts.plain_body, rw c.as_slice-rest.ensures parts.plain_rest)))))))
 
 pub put_stmt-unreachable-requires : goal.put_stmt-unreachable-requires
-put_stmt-unreachable-requires t c = no_case _ _ _ _ _ _ c.requires.sheet.keeps (c.get.ensures.item ∙ ap Some c.in-Case.is) c.requires.plain
+put_stmt-unreachable-requires t c = no_case _ _ _ _ _ _ c.sheet.invariant.keeps (c.get.ensures.item ∙ ap Some c.in-Case.is) (rw (← c.sheet.view_is) at c.requires.plain)
 
 pub put_stmt-returns-in-Assign : goal.put_stmt-returns-in-Assign
-put_stmt-returns-in-Assign t c = put_stmt_ok _ _ _ _ _ _ _ (sym (text_is _ _ _ _ _ c.requires.sheet.keeps.stmts_lower (c.get.ensures.item ∙ ap Some c.in-Assign.is))) c.put_assign.ensures
+put_stmt-returns-in-Assign t c =
+    rw (← c.sheet.view_is)
+    (put_stmt_ok _ _ _ _ _ _ _ (sym (text_is _ _ _ _ _ c.sheet.invariant.keeps.arenas.stmts_lower (c.get.ensures.item ∙ ap Some c.in-Assign.is))) (rw (← c.sheet.view_is) at c.put_assign.ensures))
 
 pub put_stmt-returns-in-If : goal.put_stmt-returns-in-If
 put_stmt-returns-in-If t c =
-    let parts = lone_if _ _ _ _ _ _ c.requires.sheet.keeps c.requires.plain c.get.ensures.item c.get.ensures.lower c.in-If.is in
+    let parts = lone_if _ _ _ _ _ _ c.sheet.invariant.keeps (rw (← c.sheet.view_is) at c.requires.plain) c.get.ensures.item c.get.ensures.lower c.in-If.is in
     let one = first_is _ _ _ parts.lone c.at-branch.ensures in
-    put_stmt_ok _ _ _ _ _ _ _ (if_is _ _ _ _ _ _ _ _ _ _ _ c.requires.sheet.keeps.stmts_lower c.get.ensures.item c.in-If.is parts.lone one c.as_slice-rest.ensures) c.put_when.ensures
+    rw (← c.sheet.view_is)
+    (put_stmt_ok _ _ _ _ _ _ _ (if_is _ _ _ _ _ _ _ _ _ _ _ c.sheet.invariant.keeps.arenas.stmts_lower c.get.ensures.item c.in-If.is parts.lone one c.as_slice-rest.ensures) (rw (← c.sheet.view_is) at c.put_when.ensures))
 
 pub put_stmts-put_stmt-requires : goal.put_stmts-put_stmt-requires
 put_stmts-put_stmt-requires t c =
     let z : StmtId = record { place = 0; of = record {} } in
     let h : c.loop-id.id-index < length c.args.ids.now = omega arith in
     let l = there_at c.args.bound c.args.ids.now c.loop-id.id-index z c.requires.below h in
-    let p = plain_at c.args.sheet.now.design.now c.args.ids.now c.loop-id.id-index z c.requires.plain h in
-    (omega (arith, l), (c.requires.sheet, (c.loop-id.invariant.grows.placed, (omega (arith, l), p))))
+    let p = plain_at c.args.sheet.now.design c.args.ids.now c.loop-id.id-index z c.requires.plain h in
+    (omega (arith, l), (c.loop-id.invariant.grows.placed, (omega (arith, l), p)))
 
 pub put_stmts-loop-id-preserved : goal.put_stmts-loop-id-preserved
 put_stmts-loop-id-preserved t c =

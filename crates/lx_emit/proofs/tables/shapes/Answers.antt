@@ -1,10 +1,18 @@
 use Rattle.std.proofs.Common.{arith}
 use Rattle.lx_emit.proofs.Counted.{item_there}
-use Rattle.lx_emit.proofs.Shaped.{shapes_none, next_sound, shapes_more}
+use Rattle.lx_emit.proofs.Shaped.{names_below, shapes_none, next_sound, shapes_more}
 use Rattle.lx_emit.proofs.tables.shapes.Goals as goal
 
 pub loop-node-init : goal.loop-node-init
 loop-node-init c = (c.as_slice-node-items.ensures, rw c.new-shapes.ensures (shapes_none _))
+
+pub sound_shape-shape-requires-clause-signal : goal.sound_shape-shape-requires-clause-signal
+sound_shape-shape-requires-clause-signal c =
+    let there = item_there _ _ _ _ c.loop-node.invariant.0 (omega arith) c.node-item.is in
+    rw c.as_slice-in-loop-node.ensures (names_below _ _ _ (c.requires.arenas.named _ _ there))
+
+pub sound_shape-shape-requires-clause-parts : goal.sound_shape-shape-requires-clause-parts
+sound_shape-shape-requires-clause-parts c = c.requires.arenas.parts _ _ (item_there _ _ _ _ c.loop-node.invariant.0 (omega arith) c.node-item.is)
 
 pub sound_shape-shape-requires-clause-sound : goal.sound_shape-shape-requires-clause-sound
 sound_shape-shape-requires-clause-sound c =

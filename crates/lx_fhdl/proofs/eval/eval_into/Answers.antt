@@ -5,13 +5,15 @@ use mir.Val.{to_z, of_z}
 use Rattle.std.proofs.lemmas.Int.{to_z-of_z}
 use Rattle.lx_num.specs.Ints.{Fits}
 use Rattle.lx_fhdl.specs.Nodes.{IsFit, shape_at}
-use Rattle.lx_fhdl.proofs.Arena.{each_child, lower_at}
+use Rattle.lx_arena.proofs.Places.{lower_at}
+use Rattle.lx_fhdl.specs.Below.{expr_below}
+use Rattle.lx_fhdl.proofs.Arena.{each_child}
 use Rattle.lx_fhdl.proofs.Frames.{fits_kept, values_kept}
 use Rattle.lx_fhdl.proofs.eval.eval_into.Goals as goal
 
 pub eval_node-requires-clause-children : goal.eval_node-requires-clause-children
 eval_node-requires-clause-children g c =
-    λ x e. each_child (IsFit c.args.shapes.now c.loop-place.into) c.loop-place.place x c.loop-place.invariant.fits (lower_at c.args.exprs.now c.lower.ensures c.loop-place.place x e)
+    λ x e. each_child (IsFit c.args.shapes.now c.loop-place.into) c.loop-place.place x c.loop-place.invariant.fits (lower_at expr_below c.args.exprs.now c.lower.ensures c.loop-place.place x e)
 
 pub loop-place-preserved : goal.loop-place-preserved
 loop-place-preserved g c =

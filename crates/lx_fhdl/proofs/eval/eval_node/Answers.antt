@@ -1,4 +1,5 @@
-use Rattle.lx_fhdl.proofs.Arena.{children_known, given_fits, node_there}
+use Rattle.lx_arena.proofs.Places.{node_there}
+use Rattle.lx_fhdl.proofs.Arena.{children_known, given_fits}
 use Rattle.lx_fhdl.proofs.eval.eval_node.Goals as goal
 
 pub value-requires-clause-node : goal.value-requires-clause-node

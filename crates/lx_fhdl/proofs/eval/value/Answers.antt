@@ -98,3 +98,6 @@ shape_of-requires-in-Slice c = (c.requires.children _ (c.get.ensures.item ∙ ap
 
 pub value_of-requires-in-Slice : goal.value_of-requires-in-Slice
 value_of-requires-in-Slice c = (c.requires.children _ (c.get.ensures.item ∙ ap Some c.in-Slice.is)).has_value
+
+pub unreachable-requires : goal.unreachable-requires
+unreachable-requires c = let h = (c.requires.node _ (c.get.ensures.item ∙ ap Some c.in-Fetch.is)).no_fetch in cc

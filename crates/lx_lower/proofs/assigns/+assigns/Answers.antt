@@ -1,97 +1,117 @@
 use Rattle.std.proofs.Common.{rules, ◌∙◌, ◌<◌, [], length, refl, sym, ap, arith}
 use Rattle.lx_circuit.specs.Statements as tree
 use Rattle.lx_fhdl.specs.Below.{TargetId}
-use Rattle.lx_lowering.specs.Flat.{assigns, without_low}
-use Rattle.lx_lower.proofs.Nodes.{target_tree, target_stands, items_lower, target_below_at}
-use Rattle.lx_lower.proofs.Puts.{on_ok, there_kept, term_kept, grows_exprs, grows_put, put_is}
-use Rattle.lx_lower.specs.Puts.{term_of}
-use Rattle.lx_lower.specs.Sources.{shapes_for}
-use Rattle.lx_lower.proofs.Pieces.{ready_for, shape_kept, whole_added, part_added, items_more, items_done, parts_more, parts_done}
+use Rattle.lx_fhdl.specs.Designs.{shapes, term}
+use Rattle.lx_lowering.specs.Flat.{assigns}
+use Rattle.lx_lower.proofs.Pieces.{items_done, items_lower, items_more, most_as, node_as, part_added, parts_done, parts_lower, parts_more, rest_as, ready_for, ready_shapes, stands_as, target_below_at, whole_added}
+use Rattle.lx_lower.proofs.Puts.{on_ok, owned_kept, put_is, some_start}
+use Rattle.lx_lower.proofs.Sound.{grows_then, shape_kept, term_kept}
 use Rattle.lx_lower.proofs.assigns.+assigns.Goals as goal
 
-pub put_assigns-put_assignment-requires-clause-target : goal.put_assigns-put_assignment-requires-clause-target
-put_assigns-put_assignment-requires-clause-target t c = rw c.as_slice-signals.ensures (whole_added _ _ _ _ _ _ c.requires.ready.source.keeps c.get.ensures.item c.requires.target c.in-Whole.is)
+pub put_assigns-put_assignment-requires : goal.put_assigns-put_assignment-requires
+put_assigns-put_assignment-requires t c = record {
+  out = c.requires.ready.owned;
+  target = whole_added _ _ _ _ c.requires.ready (stands_as _ _ _ _ _ c.target.ensures.stands c.in-Whole.is) (most_as _ _ _ _ _ c.target.ensures.most c.in-Whole.is);
+  value = c.requires.value.there;
+}
 
-pub put_assigns-put_assignment-requires-in-Part-clause-target : goal.put_assigns-put_assignment-requires-in-Part-clause-target
-put_assigns-put_assignment-requires-in-Part-clause-target t c = rw c.as_slice-signals.ensures (part_added _ _ _ _ _ _ _ _ c.requires.ready.source.keeps c.get.ensures.item c.requires.target c.in-Part.is)
+pub put_assigns-put_assignment-requires-in-Part : goal.put_assigns-put_assignment-requires-in-Part
+put_assigns-put_assignment-requires-in-Part t c = record {
+  out = c.requires.ready.owned;
+  target = part_added _ _ _ _ _ _ c.requires.ready (stands_as _ _ _ _ _ c.target.ensures.stands c.in-Part.is) (most_as _ _ _ _ _ c.target.ensures.most c.in-Part.is);
+  value = c.requires.value.there;
+}
+
+pub put_assigns-put_parts-requires : goal.put_assigns-put_parts-requires
+put_assigns-put_parts-requires t c =
+    (omega arith, (c.requires.ready, (rw c.as_slice.ensures (record { within = omega arith; below = parts_lower _ _ _ c.target.ensures.below c.in-Cat.is }), c.requires.value)))
 
 pub put_assigns-put_pick-requires : goal.put_assigns-put_pick-requires
 put_assigns-put_pick-requires t c =
-    let there = (target_stands _ _ _ _ c.requires.ready.source.keeps c.get.ensures.item c.in-Pick.is).1 in
-    (omega arith, (c.requires.ready, (omega arith, (rw c.as_slice-items.ensures (items_lower _ _ _ _ c.get.ensures.lower c.in-Pick.is), (there, c.requires.value)))))
+    let there = (stands_as _ _ _ _ _ c.target.ensures.stands c.in-Pick.is).1 in
+    (omega arith, (c.requires.ready, (rw c.as_slice-items.ensures (record { within = omega arith; below = items_lower _ _ _ _ c.target.ensures.below c.in-Pick.is }), (omega (arith, there, c.requires.ready.all), c.requires.value))))
 
 pub put_assigns-returns-in-Whole : goal.put_assigns-returns-in-Whole
 put_assigns-returns-in-Whole t c =
-    let same = ap (λ (u : tree.Target). assigns (shapes_for c.args.source.now) u (term_of c.args.draft.now c.args.value.id.place)) (target_tree _ _ _ _ c.requires.ready.source.keeps c.get.ensures.item c.in-Whole.is) in
-    on_ok c.put_assignment.result _ _ (λ p. put_is (sym same) p) (rw c.as_slice-signals.ensures at c.put_assignment.ensures)
+    let same = ap (λ (u : tree.Target). assigns (shapes c.args.source.now.design) u (term c.args.draft.now c.args.value.id.place)) (node_as _ _ _ _ _ c.target.ensures.tree c.in-Whole.is) in
+    on_ok c.put_assignment.result _ _ (λ p. put_is (sym same) p) c.put_assignment.ensures
 
 pub put_assigns-returns-in-Part : goal.put_assigns-returns-in-Part
 put_assigns-returns-in-Part t c =
-    let same = ap (λ (u : tree.Target). assigns (shapes_for c.args.source.now) u (term_of c.args.draft.now c.args.value.id.place)) (target_tree _ _ _ _ c.requires.ready.source.keeps c.get.ensures.item c.in-Part.is) in
-    on_ok c.put_assignment-in-Part.result _ _ (λ p. put_is (sym same) p) (rw c.as_slice-signals.ensures at c.put_assignment-in-Part.ensures)
+    let same = ap (λ (u : tree.Target). assigns (shapes c.args.source.now.design) u (term c.args.draft.now c.args.value.id.place)) (node_as _ _ _ _ _ c.target.ensures.tree c.in-Part.is) in
+    on_ok c.put_assignment-in-Part.result _ _ (λ p. put_is (sym same) p) c.put_assignment-in-Part.ensures
 
 pub put_assigns-returns-in-Cat : goal.put_assigns-returns-in-Cat
 put_assigns-returns-in-Cat t c =
-    let same = ap (λ (u : tree.Target). assigns (shapes_for c.args.source.now) u (term_of c.args.draft.now c.args.value.id.place)) (target_tree _ _ _ _ c.requires.ready.source.keeps c.get.ensures.item c.in-Cat.is) in
+    let same = ap (λ (u : tree.Target). assigns (shapes c.args.source.now.design) u (term c.args.draft.now c.args.value.id.place)) (node_as _ _ _ _ _ c.target.ensures.tree c.in-Cat.is) in
     on_ok c.put_parts.result _ _ (λ p. put_is (sym same) p) (rw c.as_slice.ensures at c.put_parts.ensures)
 
 pub put_assigns-returns-in-Pick : goal.put_assigns-returns-in-Pick
 put_assigns-returns-in-Pick t c =
-    let same = ap (λ (u : tree.Target). assigns (shapes_for c.args.source.now) u (term_of c.args.draft.now c.args.value.id.place)) (target_tree _ _ _ _ c.requires.ready.source.keeps c.get.ensures.item c.in-Pick.is) in
+    let same = ap (λ (u : tree.Target). assigns (shapes c.args.source.now.design) u (term c.args.draft.now c.args.value.id.place)) (node_as _ _ _ _ _ c.target.ensures.tree c.in-Pick.is) in
     on_ok c.put_pick.result _ _ (λ p. put_is (sym same) p) (rw c.as_slice-items.ensures at c.put_pick.ensures)
+
+pub put_items-loop-number-init : goal.put_items-loop-number-init
+put_items-loop-number-init t c = some_start _ _ _ c.requires.ready.owned
 
 pub put_items-put_assigns-requires : goal.put_items-put_assigns-requires
 put_items-put_assigns-requires t c =
     let z : TargetId = record { place = 0; of = record {} } in
     let h : c.loop-number.number < length c.args.items.now = omega arith in
-    let l = target_below_at c.args.bound c.args.items.now c.loop-number.number z c.requires.below h in
+    let l = target_below_at c.args.bound c.args.items.now c.loop-number.number z c.requires.items.below h in
     let grows = c.loop-number.invariant.grows in
-    (omega (arith, l), (rw c.new-own.ensures (ready_for [] c.requires.ready grows (search rules)), (omega (arith, l), shape_kept grows.stays.terms c.requires.value)))
+    (omega (arith, l), (rw c.new-own.ensures (ready_for [] c.requires.ready grows (search rules)), (omega (arith, l, c.requires.items.within), shape_kept grows c.requires.value)))
 
-pub put_items-put_when-requires-clause-draft : goal.put_items-put_when-requires-clause-draft
-put_items-put_when-requires-clause-draft t c =
-    let own = c.in_ok-put_assigns.ensures in
-    rw c.as_slice-signals.ensures ((grows_put _ _ _ _ _ own.grows.keeps c.in_ok-cond.ensures.ok (rw c.as_slice-signals.ensures at c.in_ok-cond.ensures.keep)).keeps)
+pub put_items-push_choice-requires : goal.put_items-push_choice-requires
+put_items-push_choice-requires t c = shape_kept (grows_then c.loop-number.invariant.grows c.in_ok-put_assigns.ensures.grows) c.requires.index
 
-pub put_items-put_when-requires-clause-out : goal.put_items-put_when-requires-clause-out
-put_items-put_when-requires-clause-out t c =
+pub put_items-put_when-requires : goal.put_items-put_when-requires
+put_items-put_when-requires t c =
     let own = c.in_ok-put_assigns.ensures in
-    there_kept c.loop-number.out own.grows c.loop-number.invariant.there
+    let more = c.in_ok-cond.ensures.grows in
+    record {
+      out = owned_kept c.loop-number.out (grows_then own.grows more) c.loop-number.invariant.owned;
+      cond = c.in_ok-cond.ensures.within;
+      then_ = rw c.as_slice.ensures (owned_kept _ more own.owned);
+    }
 
 pub put_items-loop-number-preserved : goal.put_items-loop-number-preserved
 put_items-loop-number-preserved t c =
-    let own = c.in_ok-put_assigns.ensures in
+    let own = rw c.new-own.ensures at c.in_ok-put_assigns.ensures in
     let so = c.loop-number.invariant in
-    let grows = grows_put _ _ _ _ _ own.grows.keeps c.in_ok-cond.ensures.ok (rw c.as_slice-signals.ensures at c.in_ok-cond.ensures.keep) in
-    let index = term_kept c.args.index.id.place own.grows (omega (arith, c.requires.index.there, so.grows.stays.terms.longer)) ∙ term_kept c.args.index.id.place so.grows c.requires.index.there in
+    let index = term_kept c.args.index.id.place own.grows (omega (arith, c.requires.index.there, so.grows.stays.exprs)) ∙ term_kept c.args.index.id.place so.grows c.requires.index.there in
     let value = term_kept c.args.value.id.place so.grows c.requires.value.there in
-    items_more _ _ _ _ _ _ _ _ _ _ c.in_ok-cond.cond.place (omega arith) c.requires.several refl value index so (rw c.new-own.ensures at own) grows (rw c.as_slice-signals.ensures at c.in_ok-cond.ensures.ok.tree) (rw c.as_slice-signals.ensures at c.in_ok-put_when.ensures)
+    items_more _ _ _ _ _ _ _ _ _ _ c.in_ok-cond.cond.place (omega arith) c.requires.several refl value index so own (ready_shapes c.requires.ready (grows_then so.grows own.grows)) c.in_ok-cond.ensures (rw c.as_slice.ensures at c.in_ok-put_when.ensures)
 
 pub put_items-returns : goal.put_items-returns
 put_items-returns t c = items_done _ _ c.args.items.now c.loop-number.number _ _ (omega arith) c.loop-number.invariant
+
+pub put_parts-loop-number-init : goal.put_parts-loop-number-init
+put_parts-loop-number-init t c = (some_start _ _ _ c.requires.ready.owned, c.requires.value)
 
 pub put_parts-put_assigns-requires : goal.put_parts-put_assigns-requires
 put_parts-put_assigns-requires t c =
     let z : TargetId = record { place = 0; of = record {} } in
     let h : c.loop-number.number < length c.args.parts.now = omega arith in
-    let l = target_below_at c.args.bound c.args.parts.now c.loop-number.number z c.requires.below h in
-    let grows = c.loop-number.invariant.0.grows in
-    (omega (arith, l), (ready_for _ c.requires.ready grows c.loop-number.invariant.0.there, (omega (arith, l), c.loop-number.invariant.1)))
+    let l = target_below_at c.args.bound c.args.parts.now c.loop-number.number z c.requires.parts.below h in
+    let so = c.loop-number.invariant.0 in
+    (omega (arith, l), (ready_for _ c.requires.ready so.grows so.owned, (omega (arith, l, c.requires.parts.within), c.loop-number.invariant.1)))
 
-pub put_parts-push_rest-requires-clause-part : goal.put_parts-push_rest-requires-clause-part
-put_parts-push_rest-requires-clause-part t c =
+pub put_parts-push_rest-requires : goal.put_parts-push_rest-requires
+put_parts-push_rest-requires t c =
     let z : TargetId = record { place = 0; of = record {} } in
     let h : c.loop-number.number < length c.args.parts.now = omega arith in
-    let l = target_below_at c.args.bound c.args.parts.now c.loop-number.number z c.requires.below h in
-    omega (arith, l)
+    let l = target_below_at c.args.bound c.args.parts.now c.loop-number.number z c.requires.parts.below h in
+    record { value = shape_kept c.in_ok-put_assigns.ensures.grows c.loop-number.invariant.1; part = omega (arith, l, c.requires.parts.within) }
 
 pub put_parts-loop-number-preserved : goal.put_parts-loop-number-preserved
 put_parts-loop-number-preserved t c =
     let own = c.in_ok-put_assigns.ensures in
-    let next = c.in_ok-value.ensures.ok in
-    let grows = grows_exprs _ _ _ own.grows.keeps next.terms c.in_ok-value.ensures.keep in
-    let same = ap (without_low _ _) (term_kept c.loop-number.value.id.place own.grows c.loop-number.invariant.1.there) in
-    (parts_more _ _ _ _ _ _ _ _ (omega arith) refl (λ e. next.tree e ∙ same) c.loop-number.invariant.0 own grows, next.shape)
+    let next = c.in_ok-value.ensures in
+    let so = c.loop-number.invariant.0 in
+    let value = c.loop-number.invariant.1 in
+    let sy = ready_shapes c.requires.ready (grows_then so.grows own.grows) in
+    (parts_more _ _ _ _ _ _ _ _ (omega arith) refl (rest_as _ _ sy value.there own.grows next) so own next.grows, next.shape)
 
 pub put_parts-returns : goal.put_parts-returns
 put_parts-returns t c = parts_done _ _ c.args.parts.now c.loop-number.number _ (omega arith) c.loop-number.invariant.0

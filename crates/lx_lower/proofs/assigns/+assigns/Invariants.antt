@@ -1,9 +1,9 @@
 use Rattle.std.proofs.Common.{◌+◌, ◌*◌, drop}
-use Rattle.lx_fhdl.specs.Designs.{target}
+use Rattle.lx_fhdl.specs.Designs.{shapes, target, term}
 use Rattle.lx_fhdl.specs.Stmts.{targets_at}
 use Rattle.lx_lowering.specs.Flat.{items_assigns, parts_assigns}
-use Rattle.lx_lower.specs.Puts.{PutSome, term_of}
-use Rattle.lx_lower.specs.Sources.{HasShape, signals_for, shapes_for}
+use Rattle.lx_lower.specs.Operands.{HasShape}
+use Rattle.lx_lower.specs.Owned.{PutSome}
 use Rattle.lx_lower.proofs.assigns.+assigns.Given as goal
 
 abbrev pub decreases-put_assigns : goal.decreases-put_assigns
@@ -20,13 +20,13 @@ decreases-put_items l = 3 * l.bound
 
 abbrev pub invariant-put_parts-loop-number : goal.invariant-put_parts-loop-number
 invariant-put_parts-loop-number l =
-    PutSome (signals_for l.source) l.initial.draft l.draft l.initial.out l.out
-    (parts_assigns (shapes_for l.source) (targets_at (target l.source.design.now) l.parts) (term_of l.initial.draft l.initial.value.id.place))
-    (parts_assigns (shapes_for l.source) (targets_at (target l.source.design.now) (drop l.number l.parts)) (term_of l.draft l.value.id.place))
-    × HasShape (signals_for l.source) l.draft.exprs l.value
+    PutSome l.initial.draft l.draft l.initial.out l.out
+    (parts_assigns (shapes l.source.design) (targets_at (target l.source.design) l.parts) (term l.initial.draft l.initial.value.id.place))
+    (parts_assigns (shapes l.source.design) (targets_at (target l.source.design) (drop l.number l.parts)) (term l.draft l.value.id.place))
+    × HasShape l.draft l.value
 
 abbrev pub invariant-put_items-loop-number : goal.invariant-put_items-loop-number
 invariant-put_items-loop-number l =
-    PutSome (signals_for l.source) l.initial.draft l.draft l.initial.out l.out
-    (items_assigns (shapes_for l.source) 0 (targets_at (target l.source.design.now) l.items) (term_of l.initial.draft l.index.id.place) (term_of l.initial.draft l.value.id.place))
-    (items_assigns (shapes_for l.source) l.number (targets_at (target l.source.design.now) (drop l.number l.items)) (term_of l.initial.draft l.index.id.place) (term_of l.initial.draft l.value.id.place))
+    PutSome l.initial.draft l.draft l.initial.out l.out
+    (items_assigns (shapes l.source.design) 0 (targets_at (target l.source.design) l.items) (term l.initial.draft l.index.id.place) (term l.initial.draft l.value.id.place))
+    (items_assigns (shapes l.source.design) l.number (targets_at (target l.source.design) (drop l.number l.items)) (term l.initial.draft l.index.id.place) (term l.initial.draft l.value.id.place))

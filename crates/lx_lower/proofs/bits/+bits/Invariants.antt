@@ -14,7 +14,7 @@ abbrev pub decreases-most_of_bits : goal.decreases-most_of_bits
 decreases-most_of_bits l = 2 * l.bound
 
 abbrev pub invariant-sum_of_bits-loop-part : goal.invariant-sum_of_bits-loop-part
-invariant-sum_of_bits-loop-part l = l.bits + sum_bits (shapes l.design) (targets_at (target l.design) (drop l.part-index l.parts)) ≡ sum_bits (shapes l.design) (targets_at (target l.design) l.parts)
+invariant-sum_of_bits-loop-part l = l.bits + sum_bits (shapes l.source.design) (targets_at (target l.source.design) (drop l.part-index l.parts)) ≡ sum_bits (shapes l.source.design) (targets_at (target l.source.design) l.parts)
 
 abbrev pub invariant-most_of_bits-loop-item : goal.invariant-most_of_bits-loop-item
-invariant-most_of_bits-loop-item l = max l.bits (most_bits (shapes l.design) (targets_at (target l.design) (drop l.item-index l.items))) ≡ most_bits (shapes l.design) (targets_at (target l.design) l.items)
+invariant-most_of_bits-loop-item l = max l.bits (most_bits (shapes l.source.design) (targets_at (target l.source.design) (drop l.item-index l.items))) ≡ most_bits (shapes l.source.design) (targets_at (target l.source.design) l.items)

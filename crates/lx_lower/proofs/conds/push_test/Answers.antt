@@ -1,5 +1,5 @@
-use Rattle.lx_lower.proofs.Conditions.{small_shape}
+use Rattle.lx_lower.proofs.Conditions.{can_test}
 use Rattle.lx_lower.proofs.conds.push_test.Goals as goal
 
-pub push_constant-requires-clause-small : goal.push_constant-requires-clause-small
-push_constant-requires-clause-small c = small_shape _ _ _ _ _ c.requires.keep.sound c.requires.of c.requires.shape
+pub push_binary-requires : goal.push_binary-requires
+push_binary-requires c = can_test _ _ _ _ _ _ c.keeps.ensures c.requires.op c.requires.of c.in_ok-number.ensures

@@ -1,5 +1,5 @@
 use Rattle.std.proofs.Common.{◌≡◌, ◌++◌, map, drop}
-use Rattle.lx_lower.specs.Exprs.{moved_to}
+use Rattle.lx_lower.specs.Sources.{moved_to}
 use Rattle.lx_lower.proofs.exprs.moved_all.Given as goal
 
 abbrev pub invariant-loop-id : goal.invariant-loop-id

@@ -1,10 +1,11 @@
 use Rattle.std.proofs.Common.{◌+◌, ◌*◌, [], drop, take}
-use Rattle.lx_fhdl.specs.Designs.{term, stmt, block}
+use Rattle.lx_fhdl.specs.Designs as designs
+use Rattle.lx_fhdl.specs.Designs.{block, shapes, stmt, term}
 use Rattle.lx_fhdl.specs.Stmts.{branches_at}
 use Rattle.lx_lowering.specs.Flat.{flat_block, flat_chain}
-use Rattle.lx_lower.specs.Keys.{IsBit, arms_block, seen_keys}
-use Rattle.lx_lower.specs.Puts.{PutSome, term_of}
-use Rattle.lx_lower.specs.Sources.{shapes_for, signals_for}
+use Rattle.lx_lower.specs.Keys.{arms_block, seen_keys}
+use Rattle.lx_lower.specs.Owned.{PutSome}
+use Rattle.lx_lower.specs.Plain.{IsBit}
 use Rattle.lx_lower.proofs.flat.+flat.Given as goal
 
 abbrev pub decreases-put_flat : goal.decreases-put_flat
@@ -13,8 +14,8 @@ decreases-put_flat l = 6 * l.id.place + 5
 abbrev pub decreases-put_flat_block : goal.decreases-put_flat_block
 decreases-put_flat_block l = 6 * l.bound
 
-abbrev pub decreases-put_under : goal.decreases-put_under
-decreases-put_under l = 6 * l.bound + 1
+abbrev pub decreases-put_block_when : goal.decreases-put_block_when
+decreases-put_block_when l = 6 * l.bound + 1
 
 abbrev pub decreases-put_if : goal.decreases-put_if
 decreases-put_if l = 6 * l.bound + 4
@@ -28,6 +29,9 @@ decreases-put_lone l = 6 * l.bound + 1
 abbrev pub decreases-put_chain : goal.decreases-put_chain
 decreases-put_chain l = 6 * l.bound + 2
 
+abbrev pub decreases-put_case : goal.decreases-put_case
+decreases-put_case l = 6 * l.bound + 3
+
 abbrev pub decreases-put_arms : goal.decreases-put_arms
 decreases-put_arms l = 6 * l.bound + 2
 
@@ -36,19 +40,19 @@ decreases-put_otherwise l = 6 * l.bound + 2
 
 abbrev pub invariant-put_flat_block-loop-id : goal.invariant-put_flat_block-loop-id
 invariant-put_flat_block-loop-id l =
-    PutSome (signals_for l.source) l.initial.draft l.draft l.initial.out l.out
-    (flat_block (shapes_for l.source) (block l.source.design.now l.ids))
-    (flat_block (shapes_for l.source) (block l.source.design.now (drop l.id-index l.ids)))
+    PutSome l.initial.draft l.draft l.initial.out l.out
+    (flat_block (shapes l.source.design) (block l.source.design l.ids))
+    (flat_block (shapes l.source.design) (block l.source.design (drop l.id-index l.ids)))
 
 abbrev pub invariant-put_chain-loop-branch : goal.invariant-put_chain-loop-branch
 invariant-put_chain-loop-branch l =
-    PutSome (signals_for l.source) l.initial.draft l.draft l.initial.out l.out
-    (flat_chain (shapes_for l.source) (term_of l.initial.draft l.initial.none.place) (branches_at (term l.source.design.now) (stmt l.source.design.now) l.branches) (flat_block (shapes_for l.source) (block l.source.design.now l.rest)))
-    (flat_chain (shapes_for l.source) (term_of l.draft l.none.place) (branches_at (term l.source.design.now) (stmt l.source.design.now) (drop l.branch-index l.branches)) (flat_block (shapes_for l.source) (block l.source.design.now l.rest)))
-    × IsBit (signals_for l.source) l.draft.exprs l.none.place
+    PutSome l.initial.draft l.draft l.initial.out l.out
+    (flat_chain (shapes l.source.design) (term l.initial.draft l.initial.none.place) (branches_at (designs.term l.source.design) (stmt l.source.design) l.branches) (flat_block (shapes l.source.design) (block l.source.design l.rest)))
+    (flat_chain (shapes l.source.design) (term l.draft l.none.place) (branches_at (designs.term l.source.design) (stmt l.source.design) (drop l.branch-index l.branches)) (flat_block (shapes l.source.design) (block l.source.design l.rest)))
+    × IsBit l.draft l.none.place
 
 abbrev pub invariant-put_arms-loop-number : goal.invariant-put_arms-loop-number
 invariant-put_arms-loop-number l =
-    PutSome (signals_for l.source) l.initial.draft l.draft l.initial.out l.out
-    (arms_block (shapes_for l.source) (stmt l.source.design.now) (term_of l.initial.draft l.on.id.place) [] l.arms)
-    (arms_block (shapes_for l.source) (stmt l.source.design.now) (term_of l.initial.draft l.on.id.place) (seen_keys (take l.number l.arms)) (drop l.number l.arms))
+    PutSome l.initial.draft l.draft l.initial.out l.out
+    (arms_block (shapes l.source.design) (stmt l.source.design) (term l.initial.draft l.on.id.place) [] l.arms)
+    (arms_block (shapes l.source.design) (stmt l.source.design) (term l.initial.draft l.on.id.place) (seen_keys (take l.number l.arms)) (drop l.number l.arms))

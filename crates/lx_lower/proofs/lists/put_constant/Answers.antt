@@ -1,18 +1,12 @@
-use Rattle.std.proofs.Common.{sym, subst}
-use Rattle.lx_fhdl.specs.Nodes.{IsSmall}
-use Rattle.lx_lower.proofs.Folding.{signal_shape}
-use Rattle.lx_lower.proofs.Listing.{constant_is}
-use Rattle.lx_lower.proofs.Puts.{grows_exprs, put_after, put_is}
+use Rattle.std.specs.Int.{w128}
+use Rattle.std.proofs.lemmas.Int.{to_z-of_z}
+use Rattle.lx_lower.proofs.Listing.{constant_listed, whole_there}
 use Rattle.lx_lower.proofs.lists.put_constant.Goals as goal
 
-pub push_constant-requires-clause-small : goal.push_constant-requires-clause-small
-push_constant-requires-clause-small c = subst IsSmall (sym (signal_shape _ _ _ c.requires.signal)) (c.requires.draft.exprs.sound.small _ c.requires.signal)
-
-pub put_assignment-requires-clause-draft : goal.put_assignment-requires-clause-draft
-put_assignment-requires-clause-draft c = (grows_exprs _ c.args.draft.now _ c.requires.draft c.in_ok-value.ensures.ok.terms c.in_ok-value.ensures.keep).keeps
+pub push_target-requires : goal.push_target-requires
+push_target-requires c = whole_there _ _ _ _ c.in_ok-value.ensures.grows c.requires.signal c.signal_shape-shape.ensures.is c.signal_shape-shape.ensures.small
 
 pub returns : goal.returns
 returns c =
-    let grows = grows_exprs _ c.args.draft.now _ c.requires.draft c.in_ok-value.ensures.ok.terms c.in_ok-value.ensures.keep in
-    let same = constant_is _ _ _ _ c.args.number c.ranges.number c.in_ok-value.ensures.ok.tree (signal_shape _ _ _ c.requires.signal) in
-    put_is same (put_after grows c.requires.out c.in_ok-put_assignment.ensures)
+    let value = rw (to_z-of_z w128 c.args.number c.ranges.number) at c.in_ok-value.ensures in
+    constant_listed _ _ _ _ _ _ _ _ _ _ _ _ c.args.line c.requires.out c.signal_shape-shape.ensures.is value c.in_ok-target.ensures c.in_ok-stmt.ensures c.in_ok-push.ensures.ok

@@ -1,19 +1,18 @@
-use Rattle.std.proofs.Common.{arith, ◌<◌, length}
-use Rattle.lx_lower.proofs.Listing.{list_is, list_there, chosen_next, made_end}
-use Rattle.lx_lower.proofs.Puts.{some_is, some_all}
+use Rattle.std.proofs.Common.{refl, arith}
+use Rattle.lx_lower.proofs.Listing.{chosen_all, chosen_more, chosen_none, shown_is, shown_there}
 use Rattle.lx_lower.proofs.lists.put_folded.Goals as goal
+
+pub loop-x-init : goal.loop-x-init
+loop-x-init c = chosen_none _ _ _ c.new-out.ensures
 
 pub put_chosen-requires-clause-ids : goal.put_chosen-requires-clause-ids
 put_chosen-requires-clause-ids c =
-    let within : c.loop-x.x < length c.args.lists.now = omega arith in
-    let same = list_is _ _ _ _ within c.index-lists-x.is c.as_slice-list.ensures in
-    list_there _ _ c.loop-x.draft _ _ _ c.loop-x-test.true c.requires.lists c.loop-x.invariant.grows same
+    shown_there _ _ c.args.lists.now c.loop-x.x _ c.loop-x.invariant.grows c.requires.lists c.loop-x-test.true (shown_is _ _ _ _ c.loop-x-test.true c.index-lists-x.is c.as_slice-list.ensures)
 
 pub loop-x-preserved : goal.loop-x-preserved
 loop-x-preserved c =
-    let within : c.loop-x.x < length c.args.lists.now = omega arith in
-    let same = list_is _ _ _ _ within c.index-lists-x.is c.as_slice-list.ensures in
-    chosen_next _ _ c.loop-x.draft _ _ _ _ _ _ _ _ c.loop-x-test.true c.requires.lists c.in_ok-numbers.ensures c.loop-x.invariant same c.at-number.ensures c.in_ok-put_chosen.ensures
+    let same = shown_is _ _ _ _ c.loop-x-test.true c.index-lists-x.is c.as_slice-list.ensures in
+    chosen_more _ _ _ c.loop-x.x c.args.lists.now c.args.numbers.now _ _ _ _ _ _ c.requires.lists c.requires.numbers c.loop-x-test.true same refl c.loop-x.invariant c.in_ok-put_chosen.ensures
 
 pub returns : goal.returns
-returns c = some_all (some_is (made_end _ _ _ c.loop-x-test.false) c.loop-x.invariant)
+returns c = chosen_all _ _ c.loop-x.x _ _ _ (omega (arith, c.requires.lists.long)) c.loop-x.invariant

@@ -1,5 +1,9 @@
-use Rattle.lx_lower.proofs.Domains.{split_joined}
+use Rattle.std.proofs.Common.{◌∙◌}
+use Rattle.std.proofs.lemmas.Result.{IfOk-weaker}
+use Rattle.lx_lower.proofs.Listing.{joined_put}
 use Rattle.lx_lower.proofs.parts.lower_list.Goals as goal
 
 pub returns : goal.returns
-returns c = split_joined _ _ _ _ _ _ _ _ c.in_ok-lists.ensures c.as_slice.ensures c.in_ok-list.ensures
+returns c =
+    let lists = c.in_ok-lists.ensures in
+    IfOk-weaker c.joined.result _ _ (λ list e. joined_put _ _ _ _ _ _ (lists.grows.signals ∙ c.requires.ready.lowered.signals) lists e) (rw c.as_slice.ensures.value at c.joined.ensures)

@@ -1,8 +1,26 @@
-use Rattle.lx_lower.proofs.Domains.{parts_more}
-use Rattle.lx_lower.proofs.Listing.{list_is}
+use Rattle.std.proofs.Common.{◌≡◌, [], ap, rules}
+use Rattle.std.specs.Prelude.{List}
+use Rattle.lx_fhdl.specs.Below.{StmtId}
+use Rattle.lx_fhdl.specs.Designs.{stmts_of}
+use Rattle.lx_lower.specs.Lists.{lists_of}
+use Rattle.lx_lower.proofs.BySignal.{sync_there}
+use Rattle.lx_lower.proofs.Listing.{list_is, parts_more, parts_none}
+use Rattle.lx_lower.proofs.Pieces.{ready_for}
 use Rattle.lx_lower.proofs.parts.lower_sync.Goals as goal
+
+pub loop-domain-init : goal.loop-domain-init
+loop-domain-init c = parts_none _ _ _ c.new-parts.ensures
+
+pub lower_list-requires : goal.lower_list-requires
+lower_list-requires c =
+    let ids : c.in_ok-ids.ids ≡ stmts_of c.loop-domain.domain c.args.source.now.design.sync = rw (c.as_slice.ensures, c.design-design.ensures.is) at c.in_ok-ids.ensures in
+    record {
+      ready = ready_for [] c.requires c.loop-domain.invariant.grows (search rules);
+      there = rw c.as_slice-in-loop-domain.ensures (sync_there _ c.loop-domain.domain _ c.design-design.ensures.keeps.keeps ids);
+    }
 
 pub loop-domain-preserved : goal.loop-domain-preserved
 loop-domain-preserved c =
-    let same = list_is _ _ _ _ c.loop-domain-test.true c.index-domains-domain.is c.as_slice-ids.ensures in
-    rw c.in_ok-push.ensures.ok (parts_more _ _ _ _ _ _ _ _ _ _ c.requires.flat c.loop-domain.invariant same c.in_ok-stmts.ensures)
+    let ids : c.in_ok-ids.ids ≡ stmts_of c.loop-domain.domain c.args.source.now.design.sync = rw (c.as_slice.ensures, c.design-design.ensures.is) at c.in_ok-ids.ensures in
+    let stmts = rw c.as_slice-in-loop-domain.ensures at c.in_ok-stmts.ensures in
+    parts_more _ _ _ _ _ _ _ _ c.loop-domain.invariant (list_is _ _ _ _ (ap (λ (is : List StmtId). lists_of c.args.source.now.design is) ids) stmts) c.in_ok-push.ensures.ok

@@ -1,20 +1,26 @@
-use Rattle.std.proofs.Common.{List, ℕ, [], refl, subst, inl}
-use Rattle.lx_outside.specs.Calls.{pair, StoresPart}
-use Rattle.lx_top.specs.Lines.{top_v}
-use Rattle.lx_top.proofs.LineLemmas.{gains_nothing}
+use Rattle.std.proofs.Common.{List, ℕ, subst}
+use Rattle.lx_top.specs.Outcome.{told, SaysText}
+use Rattle.lx_top.proofs.Endings.{delivers_said, gains_all, store_failed_at}
 use Rattle.lx_top.proofs.delivering.deliver.Goals as goal
 
 pub returns-in-Err : goal.returns-in-Err
-returns-in-Err g c = λ files later before now. inl (record {
-  earlier = [];
-  file = pair top_v c.args.product.now.text;
-  later = [];
-  order = refl;
-  middle = g.K.Sink.stored c.args.out.now;
-  whole = gains_nothing (g.K.Sink.stored c.args.out.now);
-  part = subst (λ (t : List ℕ). StoresPart (g.K.Sink.stored c.args.out.now) (g.K.Sink.stored c.store.new.self) top_v t) c.as_bytes.ensures c.in-Err.ensures.stores.1;
-  rose = c.in-Err.ensures.stores.0;
-  said = refl;
-  say_faults = refl;
-  line = c.say_pieces.ensures;
-})
+returns-in-Err g c = λ files later before now.
+    store_failed_at c.args.texts.now.files c.as_slice-file-items.result.now c.loop-file.file-index c.file-item.result c.as_bytes.result.now c.as_slice.result.now c.as_bytes-in-Err.result.now c.args.texts.now.text files later before now
+    (g.K.Sink.stored c.args.out.now) (g.K.Sink.stored c.loop-file.out) (g.K.Sink.stored c.store.new.self) (g.K.Sink.faults c.args.out.now) (g.K.Sink.faults c.loop-file.out) (g.K.Sink.faults c.store.new.self)
+    (g.C.Console.said c.args.con.now) (g.C.Console.faults c.args.con.now)
+    (g.E.Console.said c.args.err.now) (g.E.Console.said c.loop-file.err) (g.E.Console.said c.tell.new.err) (g.E.Console.faults c.args.err.now) (g.E.Console.faults c.loop-file.err) (g.E.Console.faults c.tell.new.err)
+    c.loop-file.invariant.files c.loop-file-test.true c.file-item.is c.as_bytes.ensures c.as_slice.ensures c.as_bytes-in-Err.ensures
+    c.loop-file.invariant.stored c.loop-file.invariant.rising c.loop-file.invariant.said c.loop-file.invariant.faults
+    c.in-Err.ensures.stores.0 c.in-Err.ensures.stores.1 c.tell.ensures
+
+pub returns : goal.returns
+returns g c = λ files later before now.
+    delivers_said c.args.texts.now.files c.args.texts.now.text files later before now
+    (g.K.Sink.stored c.args.out.now) (g.K.Sink.stored c.loop-file.out) (g.K.Sink.faults c.args.out.now) (g.K.Sink.faults c.loop-file.out) (g.E.Console.said c.args.err.now) (g.E.Console.faults c.args.err.now)
+    (told (g.C.Console.said c.args.con.now) (g.C.Console.faults c.args.con.now) (g.E.Console.said c.loop-file.err) (g.E.Console.faults c.loop-file.err))
+    (told (g.C.Console.said c.say_text.new.con) (g.C.Console.faults c.say_text.new.con) (g.E.Console.said c.say_text.new.err) (g.E.Console.faults c.say_text.new.err))
+    c.say_text.result
+    (gains_all c.args.texts.now.files c.as_slice-file-items.result.now c.loop-file.file-index (g.K.Sink.stored c.args.out.now) (g.K.Sink.stored c.loop-file.out) c.loop-file.invariant.files c.loop-file-test.false c.loop-file.invariant.stored)
+    c.loop-file.invariant.said c.loop-file.invariant.faults
+    (subst (λ (t : List ℕ). SaysText t (told (g.C.Console.said c.args.con.now) (g.C.Console.faults c.args.con.now) (g.E.Console.said c.loop-file.err) (g.E.Console.faults c.loop-file.err))
+    (told (g.C.Console.said c.say_text.new.con) (g.C.Console.faults c.say_text.new.con) (g.E.Console.said c.say_text.new.err) (g.E.Console.faults c.say_text.new.err)) c.say_text.result) c.as_bytes-2.ensures c.say_text.ensures)

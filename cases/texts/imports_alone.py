@@ -1,0 +1,2 @@
+# no class stands here
+from migen import *

@@ -1,0 +1,4 @@
+class A(Module):
+    def __init__(self):
+        pass
+      pass

@@ -1,0 +1,6 @@
+use Rattle.std.proofs.Common.{◌≡◌, take}
+use Rattle.lx_emit.specs.Marks.{AreResetsToo}
+use Rattle.lx_emit.proofs.marks.mark_resets.Given as goal
+
+abbrev pub invariant-loop-domain : goal.invariant-loop-domain
+invariant-loop-domain l = (l.domain-items ≡ l.design.domains) × AreResetsToo l.design (take l.domain-index l.domain-items) l.marks

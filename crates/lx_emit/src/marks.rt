@@ -1,0 +1,73 @@
+//! Which signals are ports.
+
+ghost use Rattle.std.specs.Prelude.{◌≡◌, ◌<◌, false, length, option_map, replicate, IfOk, IfSome};
+ghost use Rattle.lx_fhdl.specs.Designs.{signal_number};
+ghost use Rattle.lx_fhdl.specs.Keeping.{Keeps};
+ghost use Rattle.lx_emit.specs.Marks.{AreAmong, AreMarks, AreResetsToo, IsMarkedToo};
+
+use lx_fhdl::{Design, Domain};
+use lx_text::{List, NoMemory};
+use std::alloc::Global;
+
+/// No mark for so many signals.
+fn no_marks(alloc: Global, count: usize) -> Result<Vec<bool>, NoMemory>
+    ensures { IfOk result (λ marks. marks.items ≡ replicate count false) }
+{
+    let mut marks = Vec::new(alloc);
+    for _made in 0..count {
+        marks.push(false)?;
+    }
+    Ok(marks)
+}
+
+/// Marks the signals that the design names as ports.
+fn mark_ios(design: &Design, marks: &mut [bool])
+    requires keeps { Keeps design.now }
+    requires none { marks.old ≡ replicate (length design.now.signals) false }
+    ensures { AreAmong design.now design.now.ios marks.new }
+{
+    for x in design.ios.as_slice() {
+        marks[x.0] = true;
+    }
+}
+
+/// Marks the reset of a domain, where it has one.
+fn mark_reset(marks: &mut [bool], domain: &Domain)
+    requires { IfSome domain.now.reset (λ r. r.0 < length marks.old) }
+    ensures { IsMarkedToo marks.old marks.new (option_map signal_number domain.now.reset) }
+{
+    if let Some(reset) = domain.reset {
+        marks[reset.0] = true;
+    }
+}
+
+/// Marks the resets of the domains.
+fn mark_resets(design: &Design, marks: &mut [bool])
+    requires keeps { Keeps design.now }
+    requires ios { AreAmong design.now design.now.ios marks.old }
+    ensures { AreResetsToo design.now design.now.domains marks.new }
+{
+    for domain in design.domains.as_slice() {
+        mark_reset(marks, domain);
+    }
+}
+
+/// Marks the ports, and the resets of the domains.
+fn mark_all(design: &Design, marks: &mut [bool])
+    requires keeps { Keeps design.now }
+    requires none { marks.old ≡ replicate (length design.now.signals) false }
+    ensures { AreMarks design.now marks.new }
+{
+    mark_ios(design, marks);
+    mark_resets(design, marks);
+}
+
+/// Whether each signal is a port, or a domain's reset.
+pub fn marks(alloc: Global, design: &Design) -> Result<List<bool>, NoMemory>
+    requires { Keeps design.now }
+    ensures { IfOk result (λ marks. AreMarks design.now marks) }
+{
+    let mut marks = no_marks(alloc, design.signals.len())?;
+    mark_all(design, marks.as_mut_slice());
+    Ok(List::from_vec(marks))
+}

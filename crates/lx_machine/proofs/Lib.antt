@@ -1,0 +1,13 @@
+pub mod Access
+pub mod Accessors
+pub mod Asked
+pub mod Edges
+pub mod Given
+pub mod Hangs
+pub mod Maps
+pub mod Numbers
+pub mod Others
+pub mod Settle
+pub mod Strobes
+pub mod Tiny
+pub mod Views

@@ -1,0 +1,14 @@
+pub mod Access
+pub mod Bus
+pub mod Gives
+pub mod Laws
+pub mod Map
+pub mod Maps
+pub mod Running
+pub mod Settling
+pub mod Sound
+pub mod System
+pub mod Tiny
+pub mod Views
+pub mod Worked
+pub mod WorkedTiny

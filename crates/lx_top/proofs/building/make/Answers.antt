@@ -1,6 +1,0 @@
-use Rattle.lx_top.proofs.Endings.{long_by}
-use Rattle.lx_top.proofs.building.make.Goals as goal
-
-pub returns-in-Err-TooLong : goal.returns-in-Err-TooLong
-returns-in-Err-TooLong g c =
-    long_by (g.S.Source.files c.args.src.now) c.args.name.now (g.S.Source.faults c.args.src.now) (g.S.Source.faults c.load.new.self) c.in-Err-TooLong.field-0 _ c.in-Err-TooLong.field-0-is c.in-Err-TooLong.ensures.loads
