@@ -1,1 +1,2 @@
 pub mod OperatorTexts
+pub mod Whole

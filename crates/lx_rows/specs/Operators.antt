@@ -24,7 +24,7 @@ operands k =
     else (if nat_eq k 1 then Net (codes "b") else (if nat_eq k 2 then Net (codes "s") else (if nat_eq k 3 then Net (codes "t") else (if nat_eq k 4 then Net (codes "c") else Literal 4 false 5))))
 
 abbrev pub text : Expr → List ℕ
-text x = expr_text (node_text_of shapes operands (Some x))
+text x = expr_text (node_text_of (λ m. codes "m") shapes operands (Some x))
 
 abbrev pub unary : Op → ℕ → List ℕ
 unary o x = text (Unary o (at x))

@@ -173,6 +173,8 @@ fn toggle(alloc: Global) -> Result<Design, NoMemory>
         comb: List::new(alloc),
         sync: List::of_one(alloc, sync)?,
         domains: List::of_one(alloc, sys)?,
+        memories: List::new(alloc),
+        ports: List::new(alloc),
         ios: ios(alloc)?,
     })
 }
@@ -284,6 +286,8 @@ fn swap(alloc: Global) -> Result<Design, NoMemory>
         comb: List::new(alloc),
         sync: swap_sync(alloc)?,
         domains: swap_domains(alloc)?,
+        memories: List::new(alloc),
+        ports: List::new(alloc),
         ios: ios(alloc)?,
     })
 }
@@ -316,7 +320,7 @@ fn written_whole(alloc: Global, design: &Design, names: &List<Word>) -> Result<T
     print(alloc, &module)
 }
 
-#[tactic(auto, using(lx_write::proofs::Written::written_from_emitted))]
+#[tactic(auto, using(crate::proofs::Whole::toggle_written))]
 fn toggle_whole(alloc: Global) -> Result<Text, NoMemory> {
     toggle_law();
     let design = toggle(alloc)?;
@@ -324,7 +328,7 @@ fn toggle_whole(alloc: Global) -> Result<Text, NoMemory> {
     written_whole(alloc, &design, &names)
 }
 
-#[tactic(auto, using(lx_write::proofs::Written::written_from_emitted))]
+#[tactic(auto, using(crate::proofs::Whole::swap_written))]
 fn swap_whole(alloc: Global) -> Result<Text, NoMemory> {
     swap_law();
     let design = swap(alloc)?;
