@@ -2,7 +2,7 @@
 
 use crate::showing::{show, show_loaded};
 use lx_outside::{Failed, Sink, Source};
-use lx_text::{NoMemory, Text};
+use lx_text::{MAX_BYTES, NoMemory, Text};
 use lx_top::{FileSink, FileSource};
 use std::alloc::Global;
 use std::rt::Files;
@@ -17,7 +17,7 @@ pub(crate) fn show_files<R: Files>(rt: &R, alloc: Global, out: &mut Text) -> Res
         out,
         b"a limit above",
         b"made",
-        1_048_576,
+        MAX_BYTES,
         bytes.as_slice(),
     )?;
     show_load(
@@ -104,10 +104,10 @@ fn show_load<R: Files>(
     out: &mut Text,
     what: &[u8],
     name: &[u8],
-    limit: u32,
+    limit: u64,
     whole: &[u8],
 ) -> Result<(), NoMemory> {
     let mut source = FileSource::new(rt);
-    let answer = source.load(alloc, name, limit.min(1_048_576) as u64);
+    let answer = source.load(alloc, name, limit.min(MAX_BYTES));
     show_loaded(out, what, answer, whole)
 }
