@@ -1,5 +1,5 @@
 -- What the reader finds in a description's text: its tree with a class, or the fault that comes first.
-use Rattle.std.specs.Prelude.{◌≡◌, ℕ, Bool, true, false, List, map, slice_get, Option, Some, None, Result, Ok, Err, ◌||◌, ◌⊎◌}
+use Rattle.std.specs.Prelude.{◌≡◌, ℕ, Bool, true, false, List, map, Result, Ok, Err, ◌||◌, ◌⊎◌}
 use Rattle.lx_text.specs.declared.faults.Fault.{Fault}
 use Rattle.lx_text.specs.declared.faults.Kind.TheVariants as kind
 use Rattle.lx_text.specs.declared.faults.Refusal.{Refusal}
@@ -10,7 +10,6 @@ use Rattle.lx_grammar.specs.declared.grammar.Rule.{Rule}
 use Rattle.lx_grammar.specs.declared.grammar.Rule.TheVariants as rule
 use Rattle.lx_grammar.specs.Derives.{Tree, Grown, NoTree, Parts, end, token, child, IsTreeOf}
 use Rattle.lx_grammar.specs.Signs.{item_of}
-use Rattle.lx_pytree.specs.declared.tree.PyNode.{PyNode}
 use Rattle.lx_pytree.specs.declared.tree.PyPart.{PyPart}
 use Rattle.lx_pytree.specs.declared.tree.PyPart.TheVariants as part
 use Rattle.lx_pytree.specs.Reading.{IsAtToken}
@@ -33,14 +32,10 @@ abbrev pub has_class : Tree → Bool
 has_class (Grown r ps) = has_class_part ps
 has_class NoTree = false
 
--- the part is a class's node, by the arena
-abbrev pub is_class_node : Option PyNode → Bool
-is_class_node None = false
-is_class_node (Some node) = is_class_rule node.rule
-
-abbrev pub is_class_part : List PyNode → PyPart → Bool
-is_class_part nodes (part.Token x) = false
-is_class_part nodes (part.Node id) = is_class_node (slice_get nodes id.place)
+-- the part is a class, where f says which tree hangs at a place
+abbrev pub is_class_of : (ℕ → Tree) → PyPart → Bool
+is_class_of f (part.Token x) = false
+is_class_of f (part.Node id) = is_class (f id.place)
 
 -- the tree that the grammar derives from all tokens of the text
 pub record HasTree (bytes : List ℕ) (t : Tree) : Type 0 where

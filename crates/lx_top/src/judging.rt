@@ -3,11 +3,11 @@
 ghost use Rattle.std.specs.Prelude.{◌≡◌, ◌<◌, length};
 ghost use Rattle.std.specs.List.{list_any};
 ghost use Rattle.lx_pytree.specs.Reading.{tree_of};
-ghost use Rattle.lx_top.specs.Judging.{Judges, has_class, is_class_part, is_class_rule};
+ghost use Rattle.lx_pytree.specs.Trees.{tree_at};
+ghost use Rattle.lx_top.specs.Judging.{Judges, has_class, is_class_of, is_class_rule};
 
-use lx_arena::Arena;
 use lx_grammar::Rule;
-use lx_pytree::{PyNode, PyPart, Tree, read};
+use lx_pytree::{PyPart, Tree, read};
 use lx_text::{Fault, Kind, Refusal};
 use lx_token::tokens::tokens;
 use std::alloc::Global;
@@ -39,25 +39,26 @@ fn has_class(tree: &Tree) -> bool
     requires { tree.now.root.place < length tree.now.nodes }
     ensures { result ≡ has_class (tree_of tree.now) }
 {
-    let node = tree.nodes.get(tree.root);
-    has_class_part(&tree.nodes, node.parts.as_slice())
+    let node = tree.node(tree.root);
+    has_class_part(tree, node.parts.as_slice())
 }
 
 // Whether one of the parts is a class.
-fn has_class_part(nodes: &Arena<PyNode>, parts: &[PyPart]) -> bool
-    ensures { result ≡ list_any (λ p. is_class_part nodes.now p) parts.now }
+fn has_class_part(tree: &Tree, parts: &[PyPart]) -> bool
+    ensures { result ≡ list_any (λ p. is_class_of (tree_at tree.now.nodes) p) parts.now }
 {
-    parts.iter().any(|part| is_class_part(nodes, part))
+    parts.iter().any(|part| is_class_part(tree, part))
 }
 
-fn is_class_part(nodes: &Arena<PyNode>, part: &PyPart) -> bool
-    ensures { result ≡ is_class_part nodes.now part.now }
+#[tactic(auto, using(crate::proofs::Classes::no_class))]
+fn is_class_part(tree: &Tree, part: &PyPart) -> bool
+    ensures { result ≡ is_class_of (tree_at tree.now.nodes) part.now }
 {
     match part {
         PyPart::Token(_) => false,
         PyPart::Node(id) => {
-            if id.place < nodes.len() {
-                is_class_rule(nodes.get(*id).rule)
+            if id.place < tree.nodes.len() {
+                is_class_rule(tree.node(*id).rule)
             } else {
                 false
             }
