@@ -1,7 +1,8 @@
 -- A draft that grows by a node keeps what it keeps, and what stood in it stays.
-use Rattle.std.proofs.Common.{◌≡◌, ℕ, zero, suc, ◌≤◌, List, [], ◌∷◌, ◌++◌, length, refl, sym, ap, subst, ◌∙◌, arith}
+use Rattle.std.proofs.Common.{◌≡◌, ℕ, zero, suc, ◌<◌, ◌≤◌, List, [], ◌∷◌, ◌++◌, length, refl, sym, ap, subst, ◌∙◌, arith}
 use Rattle.std.specs.Prelude.{None, Some, map, slice_get, slice_index_or}
-use Rattle.lx_arena.specs.Folds.{Added}
+use Rattle.std.proofs.lemmas.Option.{slice_get_within}
+use Rattle.lx_arena.specs.Folds.{Added, Same}
 use Rattle.lx_arena.specs.Lower.{EachLower}
 use Rattle.lx_arena.proofs.Places.{each_more, one_longer, places_more}
 use Rattle.lx_circuit.specs.Circuit.{nothing}
@@ -12,8 +13,8 @@ use Rattle.lx_fhdl.specs.Below.{expr_below, target_below, stmt_below}
 use Rattle.lx_fhdl.specs.Designs as design
 use Rattle.lx_fhdl.specs.Designs.{circuit_of, made_of, shapes}
 use Rattle.lx_fhdl.specs.Drafts.{DraftKeeps, CanAddExpr, CanAddTarget, CanAddStmt, Stays, ExprPut, TargetPut, StmtPut}
-use Rattle.lx_fhdl.specs.Keeping.{EachOf, IsSignal, BranchesStand, NamesThere, StmtStands, TakesOperands, TargetStands}
-use Rattle.lx_fhdl.specs.Nodes.{HasParts, IsSmall}
+use Rattle.lx_fhdl.specs.Keeping.{EachOf, IsSignal, BranchesStand, HasPlainIndex, NamesThere, StmtStands, TakesOperands, TargetStands}
+use Rattle.lx_fhdl.specs.Nodes.{EachChild, HasParts, IsSmall}
 use Rattle.lx_fhdl.specs.Stmts.{node_stmt, node_target, target_at, stmt_at}
 use Rattle.lx_fhdl.specs.Trees.{node_term, term_at}
 use Rattle.lx_fhdl.specs.declared.design.Design.{Design}
@@ -24,6 +25,9 @@ use Rattle.lx_fhdl.specs.declared.stmts.Stmt.{Stmt}
 use Rattle.lx_fhdl.specs.declared.stmts.Stmt.TheVariants as stmt
 use Rattle.lx_fhdl.specs.declared.stmts.Target.{Target}
 use Rattle.lx_fhdl.specs.declared.stmts.Target.TheVariants as target
+use Rattle.lx_fhdl.specs.declared.exprs.Expr.TheVariants as expr
+use Rattle.lx_fhdl.proofs.Arena.{each_child}
+use Rattle.lx_fhdl.proofs.Designs.{children_of}
 use Rattle.lx_fhdl.proofs.StmtTrees.{stmt_added, stmt_at-is, target_added, target_at-is}
 use Rattle.lx_fhdl.proofs.Trees.{term_added, term_at-is}
 use Rattle.lx_fhdl.proofs.Staying.{HasIndex, HaveIndices, target_kept, stmt_kept}
@@ -90,6 +94,30 @@ target_wider d y (target.Pick items index) node low h = (
   ap (λ (t : Term). (shape_of (shapes d) t).signed) ((added_expr d y node low).grows.trees index.place h.1) ∙ h.2,
 )
 
+-- an index among these expressions has the same shape where their trees are the same
+pub index_kept : (s : Shapes) (n : ℕ) (xs ys : List Expr) (x : Expr) → Same (term_at ys) (term_at xs) n → EachChild (λ j. j < n) x → HasPlainIndex s xs x → HasPlainIndex s ys x
+index_kept s n xs ys (expr.Const value bits signed) e c h = tt
+index_kept s n xs ys (expr.Sig x) e c h = tt
+index_kept s n xs ys (expr.Unary op of) e c h = tt
+index_kept s n xs ys (expr.Binary op left right) e c h = tt
+index_kept s n xs ys (expr.Mux cond then_ else_) e c h = tt
+index_kept s n xs ys (expr.Cat parts) e c h = tt
+index_kept s n xs ys (expr.Pick items index) e c h = tt
+index_kept s n xs ys (expr.Replicate of count) e c h = tt
+index_kept s n xs ys (expr.Slice of low high) e c h = tt
+index_kept s n xs ys (expr.Fetch memory width at) e c h = ap (λ (t : Term). (shape_of s t).signed) (e at.place c) ∙ h
+
+old_index : (d : Design) (y : Expr) → DraftKeeps d → CanAddExpr d y → EachLower expr_below (d.exprs ++ y ∷ []) → (k : ℕ) (x : Expr) → slice_get d.exprs k ≡ Some x → HasPlainIndex (shapes d) (d.exprs ++ y ∷ []) x
+old_index d y keep node low k x e =
+    let within = slice_get_within d.exprs k x e in
+    let there = children_of (λ j. j < length d.exprs) d.exprs keep.arenas.exprs_lower k x e (λ j l. omega arith) in
+    index_kept (shapes d) (length d.exprs) d.exprs (d.exprs ++ y ∷ []) x (added_expr d y node low).grows.trees there (keep.arenas.indices k x e)
+
+new_index : (d : Design) (y : Expr) → CanAddExpr d y → EachLower expr_below (d.exprs ++ y ∷ []) → HasPlainIndex (shapes d) (d.exprs ++ y ∷ []) y
+new_index d y node low =
+    let there = each_child (λ j. j < length d.exprs) (length d.exprs) y (λ j l. l) (search node.below) in
+    index_kept (shapes d) (length d.exprs) d.exprs (d.exprs ++ y ∷ []) y (added_expr d y node low).grows.trees there node.index
+
 branches_wider : (n m : ℕ) (bs : List Branch) → n ≤ m → BranchesStand n bs → BranchesStand m bs
 branches_wider n m [] l h = tt
 branches_wider n m (b ∷ bs) l h = (omega (arith, h.0), branches_wider n m bs l h.1)
@@ -114,6 +142,7 @@ expr_keeps d x keep node low =
         operands = each_more TakesOperands d.exprs x keep.arenas.operands node.operands;
         parts = each_more HasParts d.exprs x keep.arenas.parts node.parts;
         named = each_more (NamesThere (length d.signals) d.memories) d.exprs x keep.arenas.named node.named;
+        indices = each_more (HasPlainIndex (shapes d) (d.exprs ++ x ∷ [])) d.exprs x (old_index d x keep node low) (new_index d x node low);
         targets = λ k t e. target_wider d x t node low (keep.arenas.targets k t e);
         target_bits = λ k l.
             let e : tree.target_bits (shapes d) (design.target (with_expr d x) k) ≡ tree.target_bits (shapes d) (design.target d k) = ap (tree.target_bits (shapes d)) (targets_over d x keep node low k) in
@@ -170,6 +199,7 @@ target_keeps d x keep node low =
         operands = keep.arenas.operands;
         parts = keep.arenas.parts;
         named = keep.arenas.named;
+        indices = keep.arenas.indices;
         targets = each_more (TargetStands (shapes d) (length d.signals) d.exprs) d.targets x keep.arenas.targets node.stands;
         target_bits = places_more (λ k. tree.target_bits (shapes d) (design.target (with_target d x) k) ≤ 127) (length d.targets) (length (d.targets ++ x ∷ [])) (one_longer d.targets x)
             (λ k l. subst (λ (t : tree.Target). tree.target_bits (shapes d) t ≤ 127) (sym (added.grows.trees k l)) (keep.arenas.target_bits k l))
@@ -216,6 +246,7 @@ stmt_keeps d x keep node low = record {
     operands = keep.arenas.operands;
     parts = keep.arenas.parts;
     named = keep.arenas.named;
+    indices = keep.arenas.indices;
     targets = keep.arenas.targets;
     target_bits = keep.arenas.target_bits;
     stmts = each_more (StmtStands (length d.exprs) (length d.targets)) d.stmts x keep.arenas.stmts node.stands;

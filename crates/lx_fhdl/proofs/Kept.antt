@@ -19,8 +19,8 @@ use Rattle.lx_fhdl.specs.Nodes.{HasParts}
 use Rattle.lx_fhdl.specs.Trees.{term_at}
 use Rattle.lx_fhdl.specs.Stmts.{target_at}
 use Rattle.lx_fhdl.specs.Designs.{block, shapes, circuit_of, memory_at}
-use Rattle.lx_fhdl.specs.Keeping.{NamesThere, TakesOperands, TargetStands, BranchesStand, StmtStands, ArenasKeep, ListStands, PartStands, IsSignal, IsUnsigned, IsMemory, IsAddress, WriterStands, HasDomain, IsPort, HasResetPath, IsReset, IsDomain, EachOf, Keeps, reset_name, is_clocked, block_depth}
-use Rattle.lx_fhdl.specs.Kept.{has_width, names_there, takes_operands, has_parts, target_stands, stmt_stands, expr_keeps, target_keeps, arenas_keep, list_stands, part_stands, is_signal, is_memory, is_there, is_unsigned, is_fewest, is_address, is_some_unsigned, writer_stands, has_domain, is_port, is_reset_path, has_reset_path, is_input, is_reset, is_domain, is_kept}
+use Rattle.lx_fhdl.specs.Keeping.{NamesThere, HasPlainIndex, TakesOperands, TargetStands, BranchesStand, StmtStands, ArenasKeep, ListStands, PartStands, IsSignal, IsUnsigned, IsMemory, IsAddress, WriterStands, HasDomain, IsPort, HasResetPath, IsReset, IsDomain, EachOf, Keeps, reset_name, is_clocked, block_depth}
+use Rattle.lx_fhdl.specs.Kept.{has_width, names_there, has_plain_index, takes_operands, has_parts, target_stands, stmt_stands, expr_keeps, target_keeps, arenas_keep, list_stands, part_stands, is_signal, is_memory, is_there, is_unsigned, is_fewest, is_address, is_some_unsigned, writer_stands, has_domain, is_port, is_reset_path, has_reset_path, is_input, is_reset, is_domain, is_kept}
 use Rattle.lx_fhdl.specs.declared.exprs.SigId.{SigId}
 use Rattle.lx_fhdl.specs.declared.exprs.Expr.{Expr}
 use Rattle.lx_fhdl.specs.declared.exprs.Expr.TheVariants.{Const, Sig, Unary, Binary, Mux, Cat, Pick, Replicate, Slice, Fetch}
@@ -67,6 +67,18 @@ names_there-is n ms (Pick items index) h = tt
 names_there-is n ms (Replicate of count) h = tt
 names_there-is n ms (Slice of low high) h = tt
 names_there-is n ms (Fetch memory width at) h = has_width-is width (slice_get ms memory) h
+
+has_plain_index-is : (s : Shapes) (xs : List Expr) (x : Expr) → has_plain_index s xs x ≡ true → HasPlainIndex s xs x
+has_plain_index-is s xs (Const value bits signed) h = tt
+has_plain_index-is s xs (Sig x) h = tt
+has_plain_index-is s xs (Unary op of) h = tt
+has_plain_index-is s xs (Binary op left right) h = tt
+has_plain_index-is s xs (Mux cond then_ else_) h = tt
+has_plain_index-is s xs (Cat parts) h = tt
+has_plain_index-is s xs (Pick items index) h = tt
+has_plain_index-is s xs (Replicate of count) h = tt
+has_plain_index-is s xs (Slice of low high) h = tt
+has_plain_index-is s xs (Fetch memory width at) h = not-true _ h
 
 takes_operands-is : (x : Expr) → takes_operands x ≡ true → TakesOperands x
 takes_operands-is (Const value bits signed) h = tt
@@ -119,13 +131,21 @@ record ExprKept (s : Shapes) (n : ℕ) (ms : List Memory) (xs : List Expr) (x : 
   operands : TakesOperands x
   parts : HasParts x
   named : NamesThere n ms x
+  index : HasPlainIndex s xs x
 
 expr_keeps-is : (s : Shapes) (n : ℕ) (ms : List Memory) (xs : List Expr) (x : Expr) (k : ℕ) → expr_keeps s n ms xs x k ≡ true → ExprKept s n ms xs x k
 expr_keeps-is s n ms xs x k h =
-    let p = and_parts (is_none (fault_of s (term_at xs k))) (takes_operands x && (has_parts x && names_there n ms x)) h in
-    let q = and_parts (takes_operands x) (has_parts x && names_there n ms x) p.1 in
-    let r = and_parts (has_parts x) (names_there n ms x) q.1 in
-    record { shaped = is_none_none (fault_of s (term_at xs k)) p.0; operands = takes_operands-is x q.0; parts = has_parts-is x r.0; named = names_there-is n ms x r.1 }
+    let p = and_parts (is_none (fault_of s (term_at xs k))) (takes_operands x && (has_parts x && (names_there n ms x && has_plain_index s xs x))) h in
+    let q = and_parts (takes_operands x) (has_parts x && (names_there n ms x && has_plain_index s xs x)) p.1 in
+    let r = and_parts (has_parts x) (names_there n ms x && has_plain_index s xs x) q.1 in
+    let z = and_parts (names_there n ms x) (has_plain_index s xs x) r.1 in
+    record {
+      shaped = is_none_none (fault_of s (term_at xs k)) p.0;
+      operands = takes_operands-is x q.0;
+      parts = has_parts-is x r.0;
+      named = names_there-is n ms x z.0;
+      index = has_plain_index-is s xs x z.1;
+    }
 
 arenas_keep-is : (s : Shapes) (n : ℕ) (ms : List Memory) (xs : List Expr) (ts : List Target) (ss : List Stmt) → arenas_keep s n ms xs ts ss ≡ true → ArenasKeep s n ms xs ts ss
 arenas_keep-is s n ms xs ts ss h =
@@ -144,6 +164,7 @@ arenas_keep-is s n ms xs ts ss h =
       operands = λ k x e. (expr k x e).operands;
       parts = λ k x e. (expr k x e).parts;
       named = λ k x e. (expr k x e).named;
+      indices = λ k x e. (expr k x e).index;
       targets = λ k x e. target_stands-is s n xs x (and_parts _ _ (kept k x e)).0;
       target_bits = λ k l. let (x, e) = node_there ts k l in leb-true (target_bits s (target_at (term_at xs) ts k)) 127 (and_parts _ _ (kept k x e)).1;
       stmts = each_at (StmtStands (length xs) (length ts)) (stmt_stands (length xs) (length ts)) ss (stmt_stands-is (length xs) (length ts)) r.1;

@@ -5,7 +5,7 @@ use Rattle.lx_circuit.specs.Statements as tree
 use Rattle.lx_fhdl.specs.Below.{expr_below, target_below, stmt_below}
 use Rattle.lx_fhdl.specs.Designs as design
 use Rattle.lx_fhdl.specs.Designs.{shapes}
-use Rattle.lx_fhdl.specs.Keeping.{ArenasKeep, EachOf, IsMemory, IsSignal, NamesThere, StmtStands, TakesOperands, TargetStands}
+use Rattle.lx_fhdl.specs.Keeping.{ArenasKeep, EachOf, HasPlainIndex, IsMemory, IsSignal, NamesThere, StmtStands, TakesOperands, TargetStands}
 use Rattle.lx_fhdl.specs.Nodes.{HasParts}
 use Rattle.lx_fhdl.specs.Stmts.{node_stmt, node_target}
 use Rattle.lx_fhdl.specs.Trees.{node_term}
@@ -35,6 +35,7 @@ pub record CanAddExpr (d : Design) (x : Expr) : Type 0 where
   pub operands : TakesOperands x
   pub parts : HasParts x
   pub named : NamesThere (length d.signals) d.memories x
+  pub index : HasPlainIndex (shapes d) d.exprs x
 
 -- a target over those that are there, of at most 127 bits
 pub record CanAddTarget (d : Design) (x : Target) : Type 0 where

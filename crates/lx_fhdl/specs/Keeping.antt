@@ -66,6 +66,11 @@ NamesThere n memories (Sig x) = x.0 < n
 NamesThere n memories (Fetch memory width at) = IsSomeAnd (slice_get memories memory) (λ m. width ≡ m.width)
 NamesThere n memories _ = Unit {0}
 
+-- the index of a word that is read is unsigned
+abbrev pub HasPlainIndex : Shapes → List Expr → Expr → Type 0
+HasPlainIndex s xs (Fetch memory width at) = (shape_of s (term_at xs at.place)).signed ≡ false
+HasPlainIndex s xs _ = Unit {0}
+
 -- an operator stands with the number of operands that it takes
 abbrev pub TakesOperands : Expr → Type 0
 TakesOperands (Unary op of) = is_unary op ≡ true
@@ -105,6 +110,7 @@ pub record ArenasKeep (s : Shapes) (n : ℕ) (memories : List Memory) (xs : List
   pub operands : (k : ℕ) (x : Expr) → slice_get xs k ≡ Some x → TakesOperands x
   pub parts : (k : ℕ) (x : Expr) → slice_get xs k ≡ Some x → HasParts x
   pub named : (k : ℕ) (x : Expr) → slice_get xs k ≡ Some x → NamesThere n memories x
+  pub indices : (k : ℕ) (x : Expr) → slice_get xs k ≡ Some x → HasPlainIndex s xs x
   pub targets : (k : ℕ) (x : Target) → slice_get ts k ≡ Some x → TargetStands s n xs x
   -- a target has at most 127 bits
   pub target_bits : (k : ℕ) → k < length ts → tree.target_bits s (target_at (term_at xs) ts k) ≤ 127

@@ -41,6 +41,10 @@ names_there n memories (Sig x) = nat_lt x.0 n
 names_there n memories (Fetch memory width at) = has_width width (slice_get memories memory)
 names_there n memories _ = true
 
+abbrev pub has_plain_index : Shapes → List Expr → Expr → Bool
+has_plain_index s xs (Fetch memory width at) = not (shape_of s (term_at xs at.place)).signed
+has_plain_index s xs _ = true
+
 abbrev pub takes_operands : Expr → Bool
 takes_operands (Unary op of) = is_unary op
 takes_operands (Binary op left right) = is_binary op
@@ -67,7 +71,9 @@ are_lower xs ts ss = all_at expr_below 0 xs && (all_at target_below 0 ts && all_
 
 -- the node x stands at the place k
 abbrev pub expr_keeps : Shapes → ℕ → List Memory → List Expr → Expr → ℕ → Bool
-expr_keeps s n memories xs x k = is_none (fault_of s (term_at xs k)) && (takes_operands x && (has_parts x && names_there n memories x))
+expr_keeps s n memories xs x k =
+    is_none (fault_of s (term_at xs k))
+    && (takes_operands x && (has_parts x && (names_there n memories x && has_plain_index s xs x)))
 
 abbrev pub target_keeps : Shapes → ℕ → List Expr → List Target → Target → ℕ → Bool
 target_keeps s n xs ts x k = target_stands s n xs x && nat_le (target_bits s (target_at (term_at xs) ts k)) 127

@@ -1,5 +1,5 @@
 -- What a design means, and what it keeps, worked by hand on one design and on designs that are nearly like it.
-use Rattle.std.specs.Prelude.{◌≡◌, ℕ, true, false, List, [], ◌∷◌, ◌++◌, Option, Some, None, codes}
+use Rattle.std.specs.Prelude.{◌≡◌, ℕ, true, false, List, [], ◌∷◌, ◌++◌, Option, Some, None, codes, pos}
 use Rattle.lx_circuit.specs.Terms as term
 use Rattle.lx_circuit.specs.Circuit.{Input, Comb, Sync, Read, Undriven, role, domain_at}
 use Rattle.lx_circuit.specs.Circuit as circuit
@@ -44,9 +44,9 @@ pub record AreSpelled : Type 0 where
 
 -- ---- designs that keep all but one of these facts
 
--- one more expression
-abbrev pub with_expr : Expr → Design
-with_expr x = record instance { exprs = instance_exprs ++ x ∷ [] }
+-- more expressions
+abbrev pub with_exprs : List Expr → Design
+with_exprs xs = record instance { exprs = instance_exprs ++ xs }
 
 -- these ports alone
 abbrev pub with_port : Port → Design
@@ -70,9 +70,11 @@ writer_of adr dat_w we domain part = record { memory = 0; domain = domain; adr =
 
 -- None of them keeps what designs keep.
 pub record AreRefused : Type 0 where
-  pub other_width : Keeps (with_expr (expr.Fetch 0 7 (the_expr 1))) → ⊥
-  pub no_memory : Keeps (with_expr (expr.Fetch 1 8 (the_expr 1))) → ⊥
-  pub no_signal : Keeps (with_expr (expr.Sig (the_signal 13))) → ⊥
+  pub other_width : Keeps (with_exprs (expr.Fetch 0 7 (the_expr 1) ∷ [])) → ⊥
+  pub no_memory : Keeps (with_exprs (expr.Fetch 1 8 (the_expr 1) ∷ [])) → ⊥
+  -- a word at the index 1, which is a signed constant
+  pub signed_index : Keeps (with_exprs (expr.Const (pos 1) 2 true ∷ expr.Fetch 0 8 (the_expr 8) ∷ [])) → ⊥
+  pub no_signal : Keeps (with_exprs (expr.Sig (the_signal 13) ∷ [])) → ⊥
   pub driven_reset : Keeps with_driven_reset → ⊥
   pub content_too_large : Keeps (with_contents (256 ∷ [])) → ⊥
   pub contents_past_the_depth : Keeps (with_contents (1 ∷ 2 ∷ 3 ∷ 4 ∷ [])) → ⊥
