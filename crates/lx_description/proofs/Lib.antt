@@ -1,0 +1,4 @@
+pub mod Instance
+pub mod Kept
+pub mod Plain
+pub mod Rows
