@@ -2,12 +2,11 @@
 #![tactic(auto)]
 
 mod exprs;
+pub mod laws;
 mod leaves;
 mod parts;
 mod stmts;
 mod whole;
 
+pub use laws::forms_are_worked;
 pub use whole::print;
-
-#[cfg(test)]
-mod tests;
