@@ -1,7 +1,9 @@
 -- Arms one after the other: the keys that were seen, and the conditions of keys.
 use Rattle.std.proofs.Common.{◌≡◌, ℕ, ℤ, ◌+◌, ◌<◌, Bool, true, false, ◌||◌, List, [], ◌∷◌, ◌++◌, Option, Some, None, cond, length, take, get_or, nat_eq, refl, sym, ap, subst, ◌∙◌, ◌≤◌, arith, inl, inr, add-one, eq-eqb, FitsSigned, to_z, of_z}
 use Rattle.std.specs.Int.{w128}
-use Rattle.std.specs.Ordering.{int_eq}
+use Rattle.std.specs.Ordering.{int_cmp, int_eq}
+use Rattle.std.specs.BTreeSet.{BTreeSet, contains}
+use Rattle.std.specs.List.{list_any}
 use Rattle.std.proofs.lemmas.Int.{to_z-of_z}
 use Rattle.std.proofs.Math.Seq.{take-suc}
 use Rattle.lx_circuit.specs.Shapes.{Shapes, joined, shape_of}
@@ -40,26 +42,19 @@ among_next arms k z key b l e f =
     ap (is_among_keys key) (keys_next arms k z l)
     ∙ ap (λ (c : Bool). c || is_among_keys key (seen_keys (take k arms))) (ap (λ (a : Arm). int_eq a.key key) (sym e) ∙ f)
 
-pub seen_here : (arms : List Arm) (k : ℕ) (z : Arm) (key : ℤ) (now : Bool) → FitsSigned w128 z.key → FitsSigned w128 key → k < length arms → z ≡ get_or arms k z → of_z w128 z.key ≡ of_z w128 key → now ≡ nat_eq (of_z w128 z.key) (of_z w128 key)
-    → now ≡ is_among_keys (to_z w128 (of_z w128 key)) (seen_keys (take (k + 1) arms))
-seen_here arms k z key now f g l e same h =
-    let equal : z.key ≡ key = sym (to_z-of_z w128 z.key f) ∙ ap (to_z w128) same ∙ to_z-of_z w128 key g in
-    h ∙ eq-eqb (of_z w128 z.key) (of_z w128 key) same
-    ∙ sym (among_next arms k z key true l e (eq-int_eq z.key key equal))
-    ∙ ap (λ (x : ℤ). is_among_keys x (seen_keys (take (k + 1) arms))) (sym (to_z-of_z w128 key g))
+-- the set of the keys that were seen
+abbrev pub HasSeen : List Arm → ℕ → BTreeSet ℤ → Type 0
+HasSeen arms k set = (q : ℤ) → contains int_cmp set q ≡ is_among_keys q (seen_keys (take k arms))
 
-pub seen_before : (arms : List Arm) (k : ℕ) (z : Arm) (key : ℤ) (seen now : Bool) → FitsSigned w128 key → k < length arms → z ≡ get_or arms k z → (of_z w128 z.key ≡ of_z w128 key → ⊥) → now ≡ seen → seen ≡ is_among_keys (to_z w128 (of_z w128 key)) (seen_keys (take k arms))
-    → now ≡ is_among_keys (to_z w128 (of_z w128 key)) (seen_keys (take (k + 1) arms))
-seen_before arms k z key seen now g l e other h i =
-    let back = to_z-of_z w128 key g in
-    let apart : int_eq z.key key ≡ false = by_test (int_eq z.key key) refl in
-    h ∙ i ∙ ap (λ (x : ℤ). is_among_keys x (seen_keys (take k arms))) back
-    ∙ sym (among_next arms k z key false l e apart)
-    ∙ ap (λ (x : ℤ). is_among_keys x (seen_keys (take (k + 1) arms))) (sym back)
+pub seen_none : (arms : List Arm) (set : BTreeSet ℤ) → set.keys ≡ [] → HasSeen arms 0 set
+seen_none arms set e q = ap (list_any (int_eq q)) e
+
+pub seen_more : (arms : List Arm) (k : ℕ) (z : Arm) (old new : BTreeSet ℤ) → k < length arms → z ≡ get_or arms k z → HasSeen arms k old → ((q : ℤ) → contains int_cmp new q ≡ cond (int_eq z.key q) true (contains int_cmp old q)) → HasSeen arms (k + 1) new
+seen_more arms k z old new l e h f q = f q ∙ ap (cond (int_eq z.key q) true) (h q) ∙ either (int_eq z.key q) (is_among_keys q (seen_keys (take k arms))) ∙ sym (among_next arms k z q (int_eq z.key q) l e refl)
   where
-    by_test : (b : Bool) → int_eq z.key key ≡ b → b ≡ false
-    by_test true q = absurd (other (ap (of_z w128) (int_eq-true z.key key q)))
-    by_test false q = refl
+    either : (b c : Bool) → cond b true c ≡ (b || c)
+    either true c = refl
+    either false c = refl
 
 -- ---- the condition that an expression is no key
 

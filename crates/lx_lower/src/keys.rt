@@ -1,14 +1,14 @@
 //! The conditions of arms: that an expression is a key, and that it is no key.
 
-ghost use Rattle.std.specs.Prelude.{◌≡◌, ◌&&◌, [], not, length, if◌then◌else◌, IfOk, Some, None};
 ghost use Rattle.std.specs.Ordering.{int_eq};
+ghost use Rattle.std.specs.Prelude.{◌≡◌, ◌&&◌, [], length, if◌then◌else◌, IfOk, Some, None};
 ghost use Rattle.lx_num.specs.Ints.{wrapped};
 ghost use Rattle.lx_circuit.specs.Terms.{Binary};
 ghost use Rattle.lx_fhdl.specs.Designs.{shapes, term};
 ghost use Rattle.lx_fhdl.specs.Nodes.{IsSmall};
-ghost use Rattle.lx_lowering.specs.Flat.{and_none, is_among_keys, key_of};
+ghost use Rattle.lx_lowering.specs.Flat.{and_none, key_of};
 ghost use Rattle.lx_lowering.specs.Terms.{never};
-ghost use Rattle.lx_lower.specs.Keys.{AreBits, AreFresh, NonePut, none_after, none_of, seen_keys};
+ghost use Rattle.lx_lower.specs.Keys.{AreBits, AreFresh, NonePut, none_after, none_of};
 ghost use Rattle.lx_lower.specs.Operands.{HasShape};
 ghost use Rattle.lx_lower.specs.Plain.{TermPut};
 
@@ -20,24 +20,14 @@ use lx_num::{Shape, wrap};
 use lx_tables::Op;
 use lx_text::{List, NoMemory};
 use std::alloc::Global;
+use std::collections::BTreeSet;
 
-/// Whether a number is the key of an arm.
-fn is_seen(arms: &[Arm], key: i128) -> bool
-    ensures { result ≡ is_among_keys key (seen_keys arms.now) }
-{
-    let mut seen = false;
-    for arm in arms {
-        seen = arm.key == key || seen;
-    }
-    seen
-}
-
-/// Whether a key is one of the values of a shape, and not the key of an arm before.
-fn is_fresh(before: &[Arm], key: i128, shape: Shape) -> bool
+/// Whether a key that stands first, or doesn't, is one of the values of a shape and stands first.
+fn is_fresh(key: i128, shape: Shape, first: bool) -> bool
     requires { IsSmall shape }
-    ensures { result ≡ (int_eq (wrapped shape key) key && not (is_among_keys key (seen_keys before.now))) }
+    ensures { result ≡ (int_eq (wrapped shape key) key && first) }
 {
-    wrap(key, shape) == key && !is_seen(before, key)
+    wrap(key, shape) == key && first
 }
 
 /// For each arm, whether its key is one of the values of a shape and stands in no arm before.
@@ -45,9 +35,11 @@ pub fn fresh_keys(alloc: Global, arms: &[Arm], shape: Shape) -> Result<List<bool
     requires { IsSmall shape }
     ensures { IfOk result (λ fresh. AreFresh shape arms.now (length arms.now) fresh) }
 {
+    let mut seen = BTreeSet::new(alloc);
     let mut fresh = List::new(alloc);
-    for (number, arm) in arms.iter().enumerate() {
-        let own = is_fresh(&arms[..number], arm.key, shape);
+    for arm in arms {
+        let first = seen.insert(arm.key)?;
+        let own = is_fresh(arm.key, shape, first);
         fresh.push(own)?;
     }
     Ok(fresh)
