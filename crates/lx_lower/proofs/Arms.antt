@@ -1,10 +1,8 @@
 -- Arms one after the other: the keys that were seen, and the conditions of keys.
-use Rattle.std.proofs.Common.{◌≡◌, ℕ, ℤ, ◌+◌, ◌<◌, Bool, true, false, ◌||◌, List, [], ◌∷◌, ◌++◌, Option, Some, None, cond, length, take, get_or, nat_eq, refl, sym, ap, subst, ◌∙◌, ◌≤◌, arith, inl, inr, add-one, eq-eqb, FitsSigned, to_z, of_z}
-use Rattle.std.specs.Int.{w128}
+use Rattle.std.proofs.Common.{◌≡◌, ℕ, ℤ, ◌+◌, ◌<◌, Bool, true, false, ◌||◌, List, [], ◌∷◌, ◌++◌, Option, Some, None, cond, length, take, get_or, refl, sym, ap, subst, ◌∙◌, ◌≤◌, arith, inl, inr, add-one}
 use Rattle.std.specs.Ordering.{int_cmp, int_eq}
 use Rattle.std.specs.BTreeSet.{BTreeSet, contains}
 use Rattle.std.specs.List.{list_any}
-use Rattle.std.proofs.lemmas.Int.{to_z-of_z}
 use Rattle.std.proofs.Math.Seq.{take-suc}
 use Rattle.lx_circuit.specs.Shapes.{Shapes, joined, shape_of}
 use Rattle.lx_circuit.specs.Terms.{Binary, Term}
@@ -12,7 +10,6 @@ use Rattle.lx_fhdl.specs.Below.{ExprId}
 use Rattle.lx_fhdl.specs.declared.stmts.Arm.{Arm}
 use Rattle.lx_tables.specs.declared.operators.Op.TheVariants as op
 use Rattle.lx_lowering.specs.Flat.{and_none, is_among_keys, is_key, key_of, no_key}
-use Rattle.lx_lowering.proofs.Branches.{int_eq-true, eq-int_eq}
 use Rattle.lx_fhdl.specs.Designs.{shapes, term}
 use Rattle.lx_fhdl.specs.declared.design.Design.{Design}
 use Rattle.lx_lower.specs.Keys.{AreBits, AreFresh, fresh_at, is_fresh, key_at, keys_onto, seen_keys, none_of, NonePut, none_after}

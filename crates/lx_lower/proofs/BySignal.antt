@@ -1,5 +1,6 @@
 -- What a design's statements assign to each signal is for this signal alone.
-use Rattle.std.proofs.Common.{◌≡◌, ℕ, true, List, length, sym, ap, ◌∙◌, subst}
+use Rattle.std.proofs.Common.{◌≡◌, ℕ, true, List, length, sym, subst}
+use Rattle.lx_circuit.specs.Statements.{Block}
 use Rattle.lx_fhdl.specs.Below.{StmtId}
 use Rattle.lx_fhdl.specs.Designs as design
 use Rattle.lx_fhdl.specs.Designs.{shapes, stmts_of}
@@ -9,7 +10,8 @@ use Rattle.lx_fhdl.specs.declared.design.Design.{Design}
 use Rattle.lx_fhdl.proofs.Designs.{signal_small}
 use Rattle.lx_lowering.proofs.Law.{flat_laws}
 use Rattle.lx_lowering.proofs.SplitFacts.{is_flat_block, split_for}
-use Rattle.lx_lower.specs.Lists.{AreForSignals, AreThere, ListsPut, flat_of, split_of}
+use Rattle.lx_lower.specs.Lists.{AreForSignals, AreThere, ListsPut, split_of}
+use Rattle.lx_lower.specs.Puts.{flat_of}
 use Rattle.lx_lower.proofs.FromKeeps.{design_block, sync_below}
 
 -- flat statements are flat
@@ -25,5 +27,5 @@ comb_there d keep = keep.comb.there
 pub sync_there : (d : Design) (k : ℕ) (ids : List StmtId) → Keeps d → ids ≡ stmts_of k d.sync → AreThere d ids
 sync_there d k ids keep e = subst (AreThere d) (sym e) (search (sync_below d k d.sync keep.sync))
 
-pub for_signals : (d x y : Design) (ids : List StmtId) (lists : List (List StmtId)) → Keeps d → AreThere d ids → ListsPut x y lists (split_of d ids) → AreForSignals y lists
-for_signals d x y ids lists keep there h = record { long = h.long; there = h.there; alone = λ k l. ap (are_for k) (h.blocks k l) ∙ split_is_alone d ids keep there k }
+pub for_signals : (x y : Design) (lists : List (List StmtId)) (f : ℕ → Block) (ls : ℕ → List ℕ) → ListsPut x y (length y.signals) lists f ls → AreForSignals y lists
+for_signals x y lists f ls h = record { long = h.long; there = h.there; alone = h.alone }

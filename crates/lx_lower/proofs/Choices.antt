@@ -168,6 +168,7 @@ choice_added x y a b cond t keep can p =
         operands = tt;
         parts = tt;
         named = tt;
+        index = tt;
       };
       plain = refl;
     }

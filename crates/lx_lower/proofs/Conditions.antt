@@ -12,14 +12,14 @@ use Rattle.lx_circuit.specs.Terms as tree
 use Rattle.lx_circuit.specs.Terms.{Term}
 use Rattle.lx_fhdl.specs.Below.{ExprId}
 use Rattle.lx_fhdl.specs.Designs.{shapes, term}
-use Rattle.lx_fhdl.specs.Drafts.{DraftKeeps, ExprPut}
+use Rattle.lx_fhdl.specs.Drafts.{DraftKeeps}
 use Rattle.lx_fhdl.specs.Nodes.{IsSmall}
 use Rattle.lx_fhdl.specs.Trees.{node_term}
 use Rattle.lx_fhdl.specs.declared.design.Design.{Design}
 use Rattle.lx_fhdl.specs.declared.exprs.Expr.{Expr}
 use Rattle.lx_fhdl.specs.declared.exprs.Expr.TheVariants.{Binary}
 use Rattle.lx_lower.specs.Operands.{CanJoin, HasShape}
-use Rattle.lx_lower.specs.Plain.{CanAdd, IsBit, TermPut}
+use Rattle.lx_lower.specs.Plain.{CanAdd, ExprAdded, IsBit, TermPut}
 use Rattle.lx_lower.specs.Tests.{is_test}
 use Rattle.lx_lower.specs.declared.operands.Operand.{Operand}
 use Rattle.lx_lower.proofs.Sound.{grows_then, put_is, shape_kept, small_shape, term_kept}
@@ -31,11 +31,11 @@ use Rattle.lx_circuit.specs.Operands.{is_binary}
 use Rattle.lx_tables.specs.declared.operators.Op.TheVariants as op
 
 -- a node that was added, by its tree
-pub term_put : (old new : Design) (x : Expr) (id : ℕ) → ExprPut old new x id → TermPut old new id (node_term (term old) x)
-term_put old new x id put = record {
-  grows = record { signals = ap (λ (d : Design). d.signals) put.is; memories = ap (λ (d : Design). d.memories) put.is; stays = put.stays };
-  within = omega (arith, put.place, ap (λ (d : Design). length d.exprs) put.is, length-append old.exprs (x ∷ []));
-  tree = put.tree;
+pub term_put : (old new : Design) (x : Expr) (id : ℕ) → ExprAdded old new x id → TermPut old new id (node_term (term old) x)
+term_put old new x id p = record {
+  grows = p.grows;
+  within = omega (arith, p.put.place, ap (λ (d : Design). length d.exprs) p.put.is, length-append old.exprs (x ∷ []));
+  tree = p.put.tree;
 }
 
 pub binary_added : (d : Design) (o : Op) (left right : ExprId) → DraftKeeps d → CanJoin d o left right → CanAdd d (Binary o left right)
@@ -49,6 +49,7 @@ binary_added d o left right keep can = record {
     operands = can.binary;
     parts = tt;
     named = tt;
+    index = tt;
   };
   plain = refl;
 }

@@ -1,5 +1,5 @@
 -- Flat statements of blocks, branches and arms that are put one after the other.
-use Rattle.std.proofs.Common.{◌≡◌, ℕ, ℤ, Bool, true, nat_eq, ne_eqb, ◌+◌, ◌-◌, ◌<◌, ◌≤◌, List, [], ◌∷◌, Option, Some, None, length, take, drop, get_or, refl, sym, ap, subst, ◌∙◌, arith, cond, length-drop}
+use Rattle.std.proofs.Common.{◌≡◌, ℕ, ℤ, Bool, true, nat_eq, ne_eqb, ◌+◌, ◌-◌, ◌<◌, ◌≤◌, List, [], ◌∷◌, ◌++◌, append_assoc, Option, Some, None, length, take, drop, get_or, refl, sym, ap, subst, ◌∙◌, arith, cond, length-drop}
 use Rattle.std.specs.Prelude.{IsTrue}
 use Rattle.std.proofs.lemmas.Bool.{and_parts, true≢false}
 use Rattle.std.proofs.Math.Seq.{take-length}
@@ -22,12 +22,13 @@ use Rattle.lx_lowering.specs.Terms.{lower_term, never}
 use Rattle.lx_fhdl.specs.Designs.{shapes, term}
 use Rattle.lx_fhdl.specs.declared.design.Design.{Design}
 use Rattle.lx_lower.specs.Keys.{AreBits, NonePut, arms_block, none_after, none_of, seen_keys}
-use Rattle.lx_lower.specs.Owned.{AreOwned, Put, PutSome, PutUnder}
+use Rattle.lx_lower.specs.Lines.{arm_lines, both_lines, branch_lines, lines_at, lines_in}
+use Rattle.lx_lower.specs.Owned.{node_lines_of, AreOwned, Put, PutSome, PutUnder}
 use Rattle.lx_lower.specs.Plain.{IsBit, TermPut}
 use Rattle.lx_lower.specs.declared.owned.Own.{Own}
 use Rattle.lx_lower.proofs.Arms.{keys_next}
 use Rattle.lx_lower.proofs.Items.{next_item, nothing_left}
-use Rattle.lx_lower.proofs.Puts.{append_all, as_many, own_kept, owned_kept, put_is, put_then, put_after, some_is, some_more, some_grown, some_all, under_put}
+use Rattle.lx_lower.proofs.Puts.{append_all, holds_kept, holds_new, put_is, put_lines, put_then, put_after, some_is, some_lines, some_more, some_grown, some_all, under_put}
 use Rattle.lx_lower.proofs.Sound.{grows_then, same_shapes, term_kept}
 
 -- ---- parts of a statement are lower
@@ -51,6 +52,10 @@ node_stmt_as n m x y h e = subst (λ (z : Stmt). StmtStands n m z) e h
 pub node_stmt_is : (f : ℕ → Term) (g : ℕ → tree.Target) (h : ℕ → tree.Stmt) (t : tree.Stmt) (x y : Stmt) → t ≡ node_stmt f g h x → x ≡ y → t ≡ node_stmt f g h y
 node_stmt_is f g h t x y e d = e ∙ ap (node_stmt f g h) d
 
+-- the lines of a node
+pub node_lines_is : (d : Design) (k : ℕ) (x y : Stmt) → ((s : ℕ) → lines_at d s k ≡ node_lines_of d s x) → x ≡ y → (s : ℕ) → node_lines_of d s y ≡ lines_at d s k
+node_lines_is d k x y e f s = sym (e s ∙ ap (node_lines_of d s) f)
+
 pub if_stands : (n m : ℕ) (x : Stmt) (branches : List Branch) (rest : List StmtId) (line : ℕ) → StmtStands n m x → x ≡ stmt.If branches rest line → BranchesStand n branches
 if_stands n m x branches rest line h e = node_stmt_as n m x (stmt.If branches rest line) h e
 
@@ -65,12 +70,14 @@ lone_branch d bound (x ∷ (y ∷ more)) b h l e = absurd (omega arith)
 
 -- ---- blocks
 
-pub block_more : (s : Shapes) (h : ℕ → tree.Stmt) (ids : List StmtId) (k : ℕ) (z : StmtId) {u x y : Design} {a b c : List Own} {whole : Block} → k < length ids
-    → PutSome u x a b whole (flat_block s (block_at h (drop k ids))) → Put x y b c (flat s (h (get_or ids k z).place)) → PutSome u y a c whole (flat_block s (block_at h (drop (k + 1) ids)))
-block_more s h ids k z l p q = some_more (some_is (ap (λ (is : List StmtId). flat_block s (block_at h is)) (next_item ids k z l)) p) q
+pub block_more : (s : Shapes) (h : ℕ → tree.Stmt) (f : ℕ → ℕ → List ℕ) (ids : List StmtId) (k : ℕ) (z : StmtId) {u x y : Design} {a b c : List Own} {whole : Block} {ls : ℕ → List ℕ} → k < length ids
+    → PutSome u x a b whole (flat_block s (block_at h (drop k ids))) ls (λ i. lines_in (f i) (drop k ids)) → Put x y b c (flat s (h (get_or ids k z).place)) (λ i. f i (get_or ids k z).place)
+    → PutSome u y a c whole (flat_block s (block_at h (drop (k + 1) ids))) ls (λ i. lines_in (f i) (drop (k + 1) ids))
+block_more s h f ids k z l p q = some_more (some_lines (λ i. ap (lines_in (f i)) (next_item ids k z l)) (some_is (ap (λ (is : List StmtId). flat_block s (block_at h is)) (next_item ids k z l)) p)) q
 
-pub block_done : (s : Shapes) (h : ℕ → tree.Stmt) (ids : List StmtId) (k : ℕ) {u x : Design} {a b : List Own} {whole : Block} → length ids ≤ k → PutSome u x a b whole (flat_block s (block_at h (drop k ids))) → Put u x a b whole
-block_done s h ids k l p = some_all (some_is (ap (λ (is : List StmtId). flat_block s (block_at h is)) (nothing_left ids k l)) p)
+pub block_done : (s : Shapes) (h : ℕ → tree.Stmt) (f : ℕ → ℕ → List ℕ) (ids : List StmtId) (k : ℕ) {u x : Design} {a b : List Own} {whole : Block} {ls : ℕ → List ℕ} → length ids ≤ k
+    → PutSome u x a b whole (flat_block s (block_at h (drop k ids))) ls (λ i. lines_in (f i) (drop k ids)) → Put u x a b whole ls
+block_done s h f ids k l p = some_all (λ i. ap (lines_in (f i)) (nothing_left ids k l)) (some_is (ap (λ (is : List StmtId). flat_block s (block_at h is)) (nothing_left ids k l)) p)
 
 -- ---- branches
 
@@ -91,18 +98,21 @@ none_bit {x} {y} {k} {id} c b p = record {
 }
 
 -- one branch more
-pub chain_more : (s : Shapes) (t : ℕ → Term) (h : ℕ → tree.Stmt) (bs : List Branch) (k : ℕ) (b : Branch) (r : Block) (none cond here next : ℕ) {u x y v w : Design} {a c e : List Own} {whole : Block} → k < length bs → b ≡ get_or bs k b
+pub chain_more : (s : Shapes) (t : ℕ → Term) (h : ℕ → tree.Stmt) (f : ℕ → ℕ → List ℕ) (bs : List Branch) (k : ℕ) (b : Branch) (r : Block) (rl : ℕ → List ℕ) (none cond here next : ℕ) {u x y v w : Design} {a c e : List Own} {whole : Block} {ls : ℕ → List ℕ} → k < length bs → b ≡ get_or bs k b
     → shapes x ≡ s → shapes v ≡ s → term x cond ≡ lower_term s (t b.cond.place) → cond < length x.exprs → none < length x.exprs
-    → PutSome u x a c whole (flat_chain s (term x none) (branches_at t h (drop k bs)) r)
+    → PutSome u x a c whole (flat_chain s (term x none) (branches_at t h (drop k bs)) r) ls (both_lines (λ i. branch_lines (f i) (drop k bs)) rl)
     → TermPut x y here (Binary op.And (term x none) (holds (shapes x) (term x cond)))
-    → Put y v c e (some_when (term y here) (flat_block s (block_at h b.body)))
+    → Put y v c e (some_when (term y here) (flat_block s (block_at h b.body))) (λ i. lines_in (f i) b.body)
     → TermPut v w next (Binary op.And (term v none) (fails (shapes v) (term v cond)))
-    → PutSome u w a e whole (flat_chain s (term w next) (branches_at t h (drop (k + 1) bs)) r)
-chain_more s t h bs k b r none cond here next {x = x} {y = y} {v = v} {w = w} l same sx sv tree cond_there none_there p i q j =
+    → PutSome u w a e whole (flat_chain s (term w next) (branches_at t h (drop (k + 1) bs)) r) ls (both_lines (λ i. branch_lines (f i) (drop (k + 1) bs)) rl)
+chain_more s t h f bs k b r rl none cond here next {x = x} {y = y} {v = v} {w = w} l same sx sv tree cond_there none_there p i q j =
     let n = term x none in
     let g = i.grows in
     let step = grows_then g q.grows in
-    let at = some_is (ap (λ (xs : List Branch). flat_chain s n (branches_at t h xs) r) (next_item bs k b l)) p in
+    let rest = λ (i : ℕ). branch_lines (f i) (drop (k + 1) bs) in
+    let line = λ (i : ℕ).
+    ap (λ (xs : List Branch). branch_lines (f i) xs ++ rl i) (next_item bs k b l) ∙ append_assoc (lines_in (f i) (get_or bs k b).body) (rest i) (rl i) ∙ ap (λ (z : Branch). lines_in (f i) z.body ++ (rest i ++ rl i)) (sym same) in
+    let at = some_lines line (some_is (ap (λ (xs : List Branch). flat_chain s n (branches_at t h xs) r) (next_item bs k b l)) p) in
     let here_is : term y here ≡ Binary op.And n (holds s (lower_term s (t b.cond.place))) = i.tree ∙ ap (λ (z : Shapes). Binary op.And n (holds z (term x cond))) sx ∙ ap (λ (z : Term). Binary op.And n (holds s z)) tree in
     let body : some_when (term y here) (flat_block s (block_at h b.body)) ≡ some_when (Binary op.And n (holds s (lower_term s (t (get_or bs k b).cond.place)))) (flat_block s (block_at h (get_or bs k b).body)) =
     ap (λ (z : Term). some_when z (flat_block s (block_at h b.body))) here_is
@@ -112,8 +122,10 @@ chain_more s t h bs k b r none cond here next {x = x} {y = y} {v = v} {w = w} l 
     sym (j.tree ∙ ap (λ (z : Shapes). Binary op.And (term v none) (fails z (term v cond))) sv ∙ ap (λ (z : Term). Binary op.And z (fails s (term v cond))) (term_kept none step none_there) ∙ ap (λ (z : Term). Binary op.And n (fails s z)) after) in
     some_grown (some_is (ap (λ (z : Term). flat_chain s z (branches_at t h (drop (k + 1) bs)) r) none_is) (some_more at (put_after g p.owned (put_is body q)))) j.grows
 
-pub chain_done : (s : Shapes) (t : ℕ → Term) (h : ℕ → tree.Stmt) (bs : List Branch) (k : ℕ) (n : Term) (r : Block) {u x : Design} {a b : List Own} {whole : Block} → length bs ≤ k → PutSome u x a b whole (flat_chain s n (branches_at t h (drop k bs)) r) → PutSome u x a b whole (some_when n r)
-chain_done s t h bs k n r l p = some_is (ap (λ (xs : List Branch). flat_chain s n (branches_at t h xs) r) (nothing_left bs k l)) p
+pub chain_done : (s : Shapes) (t : ℕ → Term) (h : ℕ → tree.Stmt) (f : ℕ → ℕ → List ℕ) (bs : List Branch) (k : ℕ) (n : Term) (r : Block) (rl : ℕ → List ℕ) {u x : Design} {a b : List Own} {whole : Block} {ls : ℕ → List ℕ} → length bs ≤ k
+    → PutSome u x a b whole (flat_chain s n (branches_at t h (drop k bs)) r) ls (both_lines (λ i. branch_lines (f i) (drop k bs)) rl) → PutSome u x a b whole (some_when n r) ls rl
+chain_done s t h f bs k n r rl l p =
+    some_lines (λ i. ap (λ (xs : List Branch). branch_lines (f i) xs ++ rl i) (nothing_left bs k l)) (some_is (ap (λ (xs : List Branch). flat_chain s n (branches_at t h xs) r) (nothing_left bs k l)) p)
 
 -- the first of several branches, and the further ones
 pub several_are : (s : Shapes) (t : ℕ → Term) (h : ℕ → tree.Stmt) (bs : List Branch) (z : Branch) (r : Block) → 2 ≤ length bs
@@ -125,15 +137,17 @@ several_are s t h (x ∷ (y ∷ more)) z r l = refl
 -- ---- arms
 
 -- one arm more
-pub arms_more : (s : Shapes) (h : ℕ → tree.Stmt) (arms : List Arm) (k : ℕ) (z : Arm) (o : Term) (on here : ℕ) (fresh : Bool) {u x y v : Design} {a b c : List Own} {whole : Block} → k < length arms → z ≡ get_or arms k z
+pub arms_more : (s : Shapes) (h : ℕ → tree.Stmt) (f : ℕ → ℕ → List ℕ) (arms : List Arm) (k : ℕ) (z : Arm) (o : Term) (on here : ℕ) (fresh : Bool) {u x y v : Design} {a b c : List Own} {whole : Block} {ls : ℕ → List ℕ} → k < length arms → z ≡ get_or arms k z
     → shapes x ≡ s → term x on ≡ o → cond fresh (Binary op.Eq o (key_of s o z.key)) never ≡ is_key s o (seen_keys (take k arms)) z.key
-    → PutSome u x a b whole (arms_block s h o (seen_keys (take k arms)) (drop k arms))
+    → PutSome u x a b whole (arms_block s h o (seen_keys (take k arms)) (drop k arms)) ls (λ j. arm_lines (f j) (drop k arms))
     → TermPut x y here (cond fresh (Binary op.Eq (term x on) (key_of (shapes x) (term x on) z.key)) never)
-    → Put y v b c (some_when (term y here) (flat_block s (block_at h z.body)))
-    → PutSome u v a c whole (arms_block s h o (seen_keys (take (k + 1) arms)) (drop (k + 1) arms))
-arms_more s h arms k z o on here fresh {x = x} {y = y} l same sx i is p e q =
+    → Put y v b c (some_when (term y here) (flat_block s (block_at h z.body))) (λ j. lines_in (f j) z.body)
+    → PutSome u v a c whole (arms_block s h o (seen_keys (take (k + 1) arms)) (drop (k + 1) arms)) ls (λ j. arm_lines (f j) (drop (k + 1) arms))
+arms_more s h f arms k z o on here fresh {x = x} {y = y} l same sx i is p e q =
     let seen = seen_keys (take k arms) in
-    let at = some_is (ap (arms_block s h o seen) (next_item arms k z l)) p in
+    let rest = λ (j : ℕ). arm_lines (f j) (drop (k + 1) arms) in
+    let line = λ (j : ℕ). ap (arm_lines (f j)) (next_item arms k z l) ∙ ap (λ (w : Arm). lines_in (f j) w.body ++ rest j) (sym same) in
+    let at = some_lines line (some_is (ap (arms_block s h o seen) (next_item arms k z l)) p) in
     let tree : term y here ≡ is_key s o seen z.key =
     e.tree ∙ ap (λ (r : Shapes). cond fresh (Binary op.Eq (term x on) (key_of r (term x on) z.key)) never) sx ∙ ap (λ (w : Term). cond fresh (Binary op.Eq w (key_of s w z.key)) never) i ∙ is in
     let body : some_when (term y here) (flat_block s (block_at h z.body)) ≡ some_when (is_key s o seen (get_or arms k z).key) (flat_block s (block_at h (get_or arms k z).body)) =
@@ -141,8 +155,9 @@ arms_more s h arms k z o on here fresh {x = x} {y = y} l same sx i is p e q =
     ∙ ap (λ (w : Arm). some_when (is_key s o seen w.key) (flat_block s (block_at h w.body))) same in
     some_is (ap (λ (keys : List ℤ). arms_block s h o keys (drop (k + 1) arms)) (sym (keys_next arms k z l))) (some_more at (put_after e.grows p.owned (put_is body q)))
 
-pub arms_done : (s : Shapes) (h : ℕ → tree.Stmt) (arms : List Arm) (k : ℕ) (o : Term) (seen : List ℤ) {u x : Design} {a b : List Own} {whole : Block} → length arms ≤ k → PutSome u x a b whole (arms_block s h o seen (drop k arms)) → Put u x a b whole
-arms_done s h arms k o seen l p = some_all (some_is (ap (arms_block s h o seen) (nothing_left arms k l)) p)
+pub arms_done : (s : Shapes) (h : ℕ → tree.Stmt) (f : ℕ → ℕ → List ℕ) (arms : List Arm) (k : ℕ) (o : Term) (seen : List ℤ) {u x : Design} {a b : List Own} {whole : Block} {ls : ℕ → List ℕ} → length arms ≤ k
+    → PutSome u x a b whole (arms_block s h o seen (drop k arms)) ls (λ j. arm_lines (f j) (drop k arms)) → Put u x a b whole ls
+arms_done s h f arms k o seen l p = some_all (λ j. ap (arm_lines (f j)) (nothing_left arms k l)) (some_is (ap (arms_block s h o seen) (nothing_left arms k l)) p)
 
 -- the arms alone, and the rest where no key is the value
 pub arms_are : (s : Shapes) (h : ℕ → tree.Stmt) (on : Term) (seen : List ℤ) (before : Option Term) (arms : List Arm) (r : Block) → append (arms_block s h on seen arms) (otherwise (none_after s on seen before arms) r) ≡ flat_arms s on seen before (arms_at h arms) r
@@ -175,22 +190,25 @@ and_put x y z left right id t l p q = record {
   tree = q.tree ∙ ap (λ (u : Term). Binary op.And u (term y right)) (term_kept left p.grows l) ∙ ap (Binary op.And (term x left)) p.tree;
 }
 
-pub several_put : (s : Shapes) (t : ℕ → Term) (h : ℕ → tree.Stmt) (bs : List Branch) (b : Branch) (r : Block) (cond none : ℕ) {x y v w : Design} {a c e : List Own} → 2 ≤ length bs → b ≡ get_or bs 0 b → cond < length x.exprs
-    → shapes y ≡ s → term x cond ≡ lower_term s (t b.cond.place) → Put x y a c (some_when (term x cond) (flat_block s (block_at h b.body)))
-    → TermPut y v none (fails (shapes y) (term y cond)) → Put v w c e (flat_chain s (term v none) (branches_at t h (drop 1 bs)) r)
-    → Put x w a e (flat_if s (branches_at t h bs) r)
-several_put s t h bs b r cond none {x = x} {y = y} l same there sy tree p i q =
+-- the lines of the first branch, and of the others
+first_lines : (f : ℕ → List ℕ) (bs : List Branch) (b : Branch) (rl : List ℕ) → 1 ≤ length bs → b ≡ get_or bs 0 b → lines_in f b.body ++ (branch_lines f (drop 1 bs) ++ rl) ≡ branch_lines f bs ++ rl
+first_lines f [] b rl l e = absurd (omega arith)
+first_lines f (x ∷ xs) b rl l e = ap (λ (z : Branch). lines_in f z.body ++ (branch_lines f xs ++ rl)) e ∙ sym (append_assoc (lines_in f x.body) (branch_lines f xs) rl)
+
+pub several_put : (s : Shapes) (t : ℕ → Term) (h : ℕ → tree.Stmt) (f : ℕ → ℕ → List ℕ) (bs : List Branch) (b : Branch) (r : Block) (rl : ℕ → List ℕ) (cond none : ℕ) {x y v w : Design} {a c e : List Own} → 2 ≤ length bs → b ≡ get_or bs 0 b → cond < length x.exprs
+    → shapes y ≡ s → term x cond ≡ lower_term s (t b.cond.place) → Put x y a c (some_when (term x cond) (flat_block s (block_at h b.body))) (λ i. lines_in (f i) b.body)
+    → TermPut y v none (fails (shapes y) (term y cond)) → Put v w c e (flat_chain s (term v none) (branches_at t h (drop 1 bs)) r) (both_lines (λ i. branch_lines (f i) (drop 1 bs)) rl)
+    → Put x w a e (flat_if s (branches_at t h bs) r) (both_lines (λ i. branch_lines (f i) bs) rl)
+several_put s t h f bs b r rl cond none {x = x} {y = y} l same there sy tree p i q =
     let first : some_when (term x cond) (flat_block s (block_at h b.body)) ≡ some_when (lower_term s (t (get_or bs 0 b).cond.place)) (flat_block s (block_at h (get_or bs 0 b).body)) =
     ap (λ (z : Term). some_when z (flat_block s (block_at h b.body))) tree ∙ ap (λ (z : Branch). some_when (lower_term s (t z.cond.place)) (flat_block s (block_at h z.body))) same in
     let further = ap (λ (z : Term). flat_chain s z (branches_at t h (drop 1 bs)) r) (i.tree ∙ ap (λ (z : Shapes). fails z (term y cond)) sy ∙ ap (fails s) (term_kept cond p.grows there ∙ tree) ∙ ap (λ (z : Branch). fails s (lower_term s (t z.cond.place))) same) in
-    put_is (several_are s t h bs b r l) (put_then (put_is first p) (put_after i.grows p.owned (put_is further q)))
+    put_lines (λ j. first_lines (f j) bs b (rl j) (omega arith) same) (put_is (several_are s t h bs b r l) (put_then (put_is first p) (put_after i.grows p.owned (put_is further q))))
 
 -- a branch that keeps its rest beside it
-pub lone_put : (cond : ℕ) (p q : Block) {x y z w : Design} {a b then_ else_ : List Own} {c : Term} → AreOwned x a → term z cond ≡ c → Put x y [] then_ p → Put y z [] else_ q
-    → PutUnder z w a b (term z cond) then_ else_ → Put x w a b (first_branch c p tree.NoBranch Done q)
-lone_put cond p q {z = z} {then_ = then_} there e f g h =
-    under_put cond p q (grows_then f.grows g.grows) there (owned_kept then_ g.grows f.owned) g.owned
-    (λ k l. own_kept then_ k g.grows f.owned ∙ f.own k (omega (arith, as_many g.grows))) g.own e h
+pub lone_put : (cond : ℕ) (p q : Block) {x y z w : Design} {a b then_ else_ : List Own} {c : Term} {ls ms : ℕ → List ℕ} → AreOwned x a → term z cond ≡ c → Put x y [] then_ p ls → Put y z [] else_ q ms
+    → PutUnder z w a b (term z cond) then_ else_ → Put x w a b (first_branch c p tree.NoBranch Done q) (both_lines ls ms)
+lone_put cond p q there e f g h = under_put cond p q (grows_then f.grows g.grows) there (holds_kept g.grows (holds_new f)) (holds_new g) e h
 
 -- ---- the rest of arms
 

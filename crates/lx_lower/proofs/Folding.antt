@@ -14,6 +14,14 @@ use Rattle.lx_circuit.specs.Statements.{after_pieces, laid_over, result, taken, 
 use Rattle.lx_circuit.specs.Places.{Values}
 use Rattle.lx_circuit.proofs.Cases.{after_append}
 use Rattle.lx_fhdl.specs.Below.{StmtId}
+use Rattle.lx_fhdl.specs.Designs as design
+use Rattle.lx_fhdl.specs.Drafts.{DraftKeeps}
+use Rattle.lx_fhdl.specs.Stmts.{node_stmt}
+use Rattle.lx_fhdl.specs.declared.stmts.Stmt.{Stmt}
+use Rattle.lx_fhdl.proofs.StmtTrees.{stmt_at-is}
+use Rattle.lx_lower.specs.Lines.{lines_at}
+use Rattle.lx_lower.specs.Owned.{node_lines_of}
+use Rattle.lx_lower.proofs.Lining.{lines_at-is}
 use Rattle.lx_fhdl.specs.Designs.{circuit_of, made_of, shapes}
 use Rattle.lx_fhdl.specs.Lowered.{is_done, is_for, are_for}
 use Rattle.lx_fhdl.specs.Stmts.{block_at}
@@ -90,3 +98,15 @@ fold_number d x pattern after b a reset w some f e g h i p q l r =
 pub some_done : (f : ℕ → tree.Stmt) (ids : List StmtId) (b : Bool) → b ≡ (length ids == 0) → b ≡ false → is_done (block_at f ids) ≡ false
 some_done f [] b e h = absurd (cc)
 some_done f (i ∷ is) b e h = refl
+
+-- ---- nodes of a draft
+
+pub stmt_tree : (d : Design) (k : ℕ) (x : Stmt) → DraftKeeps d → slice_get d.stmts k ≡ Some x → design.stmt d k ≡ node_stmt (design.term d) (design.target d) (design.stmt d) x
+stmt_tree d k x keep e = stmt_at-is (design.term d) (design.target d) d.stmts keep.arenas.stmts_lower k x e
+
+pub stmt_lines : (d : Design) (k : ℕ) (x : Stmt) → DraftKeeps d → slice_get d.stmts k ≡ Some x → (s : ℕ) → lines_at d s k ≡ node_lines_of d s x
+stmt_lines d k x keep e s = lines_at-is d s k x keep.arenas.stmts_lower e
+
+pub block_some : (f : ℕ → tree.Stmt) (ids : List StmtId) → 0 < length ids → is_done (block_at f ids) ≡ false
+block_some f [] l = absurd (omega arith)
+block_some f (i ∷ is) l = refl

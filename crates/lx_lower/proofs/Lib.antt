@@ -1,3 +1,4 @@
+pub mod Alone
 pub mod Arms
 pub mod BySignal
 pub mod Choices
@@ -8,6 +9,7 @@ pub mod Freedom
 pub mod FromKeeps
 pub mod Grouping
 pub mod Items
+pub mod Lining
 pub mod Listing
 pub mod Lowerings
 pub mod Masks

@@ -1,10 +1,10 @@
 -- Lists of statements, one for each signal.
-use Rattle.std.proofs.Common.{◌≡◌, ℕ, suc, ◌+◌, ◌<◌, ◌≤◌, Bool, true, false, cond, nat_lt, nat_eq, List, [], ◌∷◌, ◌++◌, length, take, get_or, set, map, refl, sym, ap, ◌∙◌, subst, arith, inl, inr, eq-eqb, eqb-true}
-use Rattle.std.specs.Prelude.{ℤ, Option, Some, None, slice_index_or}
+use Rattle.std.proofs.Common.{◌≡◌, ℕ, zero, suc, ◌+◌, ◌<◌, ◌≤◌, Bool, true, false, cond, nat_lt, nat_eq, List, [], ◌∷◌, ◌++◌, length, take, get_or, set, map, refl, sym, ap, ◌∙◌, subst, arith, inl, inr, eq-eqb, eqb-true}
+use Rattle.std.specs.Prelude.{ℤ, Option, Some, None, replicate, slice_index_or}
 use Rattle.std.specs.List.{flat_map}
 use Rattle.std.proofs.Math.ListN.{length-set}
 use Rattle.std.proofs.lemmas.Bool.{cases_lt, and_parts, and_from, eqb-false, lt-ltb, ltb-true}
-use Rattle.std.proofs.lemmas.List.{append-nil, drop_all, get_or-set_other, get_or-set_same, get_or_append_left, get_or_push, get_or_default, length_push, length-map, take_all, take_more}
+use Rattle.std.proofs.lemmas.List.{append-nil, get_or-set_other, get_or-set_same, get_or_append_left, get_or_push, get_or_default, length_push, length-map, take_all, take_more}
 use Rattle.lx_num.specs.declared.Shape.{Shape}
 use Rattle.lx_circuit.specs.Circuit.{Made, nothing}
 use Rattle.lx_circuit.specs.Shapes.{Shapes}
@@ -14,7 +14,7 @@ use Rattle.lx_circuit.specs.Terms.{Constant}
 use Rattle.lx_fhdl.specs.Below.{ExprId, StmtId, TargetId, all_stmts_below}
 use Rattle.lx_fhdl.specs.Designs as design
 use Rattle.lx_fhdl.specs.Designs.{block, circuit_of, made_of, shapes, term}
-use Rattle.lx_fhdl.specs.Drafts.{CanAddTarget, StmtPut, TargetPut}
+use Rattle.lx_fhdl.specs.Drafts.{CanAddTarget, DraftKeeps}
 use Rattle.lx_fhdl.specs.Lowered.{are_for}
 use Rattle.lx_fhdl.specs.Nodes.{IsSmall}
 use Rattle.lx_fhdl.specs.declared.design.Design.{Design}
@@ -27,13 +27,16 @@ use Rattle.lx_lowering.specs.Constants.{folded}
 use Rattle.lx_lowering.specs.Flat.{append, one}
 use Rattle.lx_lowering.specs.Lowering.{lists_from}
 use Rattle.lx_lowering.specs.Split.{split_block}
-use Rattle.lx_lower.specs.Fixed.{chosen, constant_in, folded_in, reset_of}
-use Rattle.lx_lower.specs.Lists.{AreBySignal, AreForSignals, AreNumbers, AreThere, ListPut, ListSome, ListsPut, PartsPut, all_lists, folded_lists, folded_of, list_at, lists_after, part_at, split_of, sync_lists}
+use Rattle.lx_lower.specs.Fixed.{IsFirst, chosen, chosen_lines, constant_in, folded_in, reset_of}
+use Rattle.lx_lower.specs.Lines.{lines, lines_at, lines_in, target_lines}
+use Rattle.lx_lower.specs.Lists.{AreBySignal, AreFolds, AreForSignals, AreThere, CombPut, IsFor, KeepsLines, ListPut, ListsPut, OnePut, PartsPut, all_lists, fold_at, fold_lines, folded_lists, folded_of, list_at, part_at, split_of, sync_lines, sync_lists}
 use Rattle.lx_lower.specs.Owned.{Put, ids_of}
-use Rattle.lx_lower.specs.Plain.{Grows, TermPut}
+use Rattle.lx_lower.specs.Plain.{Grows, StmtAdded, TargetAdded, TermPut}
+use Rattle.lx_lower.specs.Puts.{lines_for}
+use Rattle.lx_lower.specs.declared.fold.Folded.{Folded}
 use Rattle.lx_lower.specs.declared.owned.Own.{Own}
-use Rattle.lx_lower.proofs.Items.{next_item}
-use Rattle.lx_lower.proofs.Puts.{append_all, append_done, as_many, block_append, block_kept, grows_stmt, grows_target, ids_append, ids_there}
+use Rattle.lx_lower.proofs.Alone.{block_others}
+use Rattle.lx_lower.proofs.Puts.{as_many, block_append, block_kept, ids_append, ids_there, lines_append, lines_kept}
 use Rattle.lx_lower.proofs.Sound.{grows_same, grows_then, same_shapes}
 
 -- ---- statements by signals
@@ -86,12 +89,15 @@ pub all_by_signal : (n : ℕ) (os : List Own) (k : ℕ) (lists : List (List Stmt
 all_by_signal n os k lists l h = subst (λ (ws : List Own). AreBySignal n ws lists) (take_all k os l) h
 
 -- the lists of what flat statements assign to each signal
-pub split_put : (x y : Design) (os : List Own) (b : Block) (lists : List (List StmtId)) → Put x y [] os b → AreBySignal (length y.signals) os lists → ListsPut x y lists (λ k. split_block k b)
-split_put x y os b lists p h = record {
+pub split_put : (x y : Design) (os : List Own) (b : Block) (ls : ℕ → List ℕ) (lists : List (List StmtId)) → ((k : ℕ) → are_for k (split_block k b) ≡ true) → Put x y [] os b ls → AreBySignal (length y.signals) os lists
+    → ListsPut x y (length y.signals) lists (λ k. split_block k b) ls
+split_put x y os b ls lists alone p h = record {
   grows = p.grows;
   long = h.long;
   there = λ k l. subst (λ (ids : List StmtId). AreThere y ids) (sym (h.each k l)) (ids_there y k os p.owned);
   blocks = λ k l. ap (block y) (h.each k l) ∙ p.own k l;
+  alone = λ k l. ap (are_for k) (ap (block y) (h.each k l) ∙ p.own k l) ∙ alone k;
+  lines = λ k l. ap (lines y k) (h.each k l) ∙ p.lines k l;
 }
 
 stmts_wider : (n m : ℕ) (ids : List StmtId) → n ≤ m → all_stmts_below n ids ≡ true → all_stmts_below m ids ≡ true
@@ -131,13 +137,36 @@ joined_there : (n : ℕ) (lists : List (List StmtId)) → ((j : ℕ) → j < len
 joined_there n [] h = refl
 joined_there n (list ∷ ls) h = below_both n list (flat_map (λ ids. ids) ls) (h 0 (omega arith)) (joined_there n ls (λ j l. h (suc j) (omega arith)))
 
-pub joined_put : (ss : List Signal) (x y : Design) (lists : List (List StmtId)) (list : List StmtId) (f : ℕ → Block) → y.signals ≡ ss → ListsPut x y lists f → list ≡ flat_map (λ ids. ids) lists → ListPut x y [] list (all_lists ss f)
-joined_put ss x y lists list f same h e =
+-- the lines for one signal: all lists but its own have none
+none_joined : (f : ℕ → List ℕ) (lists : List (List StmtId)) → ((j : ℕ) → j < length lists → lines_in f (list_at lists j) ≡ []) → lines_in f (flat_map (λ ids. ids) lists) ≡ []
+none_joined f [] h = refl
+none_joined f (list ∷ ls) h =
+    lines_append f list (flat_map (λ ids. ids) ls)
+    ∙ ap (λ (xs : List ℕ). xs ++ lines_in f (flat_map (λ ids. ids) ls)) (h 0 (omega arith))
+    ∙ none_joined f ls (λ j l. h (suc j) (omega arith))
+
+one_joined : (f : ℕ → List ℕ) (lists : List (List StmtId)) (k : ℕ) → k < length lists → ((j : ℕ) → j < length lists → (k ≡ j → ⊥) → lines_in f (list_at lists j) ≡ []) → lines_in f (flat_map (λ ids. ids) lists) ≡ lines_in f (list_at lists k)
+one_joined f [] k l h = absurd (omega arith)
+one_joined f (list ∷ ls) zero l h =
+    lines_append f list (flat_map (λ ids. ids) ls)
+    ∙ ap (λ (xs : List ℕ). lines_in f list ++ xs) (none_joined f ls (λ j m. h (suc j) (omega arith) (λ e. omega (arith, e))))
+    ∙ append-nil (lines_in f list)
+one_joined f (list ∷ ls) (suc k) l h =
+    lines_append f list (flat_map (λ ids. ids) ls)
+    ∙ ap (λ (xs : List ℕ). xs ++ lines_in f (flat_map (λ ids. ids) ls)) (h 0 (omega arith) (λ e. omega (arith, e)))
+    ∙ one_joined f ls k (omega arith) (λ j m apart. h (suc j) (omega arith) (λ e. apart (omega (arith, e))))
+
+pub joined_put : (ss : List Signal) (x y : Design) (lists : List (List StmtId)) (list : List StmtId) (f : ℕ → Block) (ls : ℕ → List ℕ) → DraftKeeps y → y.signals ≡ ss → ListsPut x y (length y.signals) lists f ls → list ≡ flat_map (λ ids. ids) lists
+    → ListPut x y list (all_lists ss f) ls
+joined_put ss x y lists list f ls keeps same h e =
     let many : length lists ≡ length ss = h.long ∙ ap length same in
     rw e (record {
       grows = h.grows;
       there = search (joined_there (length y.stmts) lists (λ j l. search (h.there j (omega (arith, h.long)))));
       block = joined_from y lists f 0 (map made_of ss) (many ∙ sym (length-map ss made_of)) (λ j l. h.blocks j (omega (arith, h.long)) ∙ ap f (omega arith));
+      lines = λ s l.
+          one_joined (lines_at y s) lists s (omega (arith, h.long)) (λ j m apart. let n : j < length y.signals = omega (arith, h.long) in block_others y j s (list_at lists j) keeps (h.there j n) (h.alone j n) (λ q. apart (sym q)))
+          ∙ h.lines s l;
     })
 
 lists_same : (f g : ℕ → Block) (k : ℕ) (ms : List Made) → ((j : ℕ) → j < k + length ms → f j ≡ g j) → lists_from f k ms ≡ lists_from g k ms
@@ -149,31 +178,28 @@ lists_same f g k (m ∷ ms) h =
 all_same : (ss : List Signal) (f g : ℕ → Block) → ((j : ℕ) → j < length ss → f j ≡ g j) → all_lists ss f ≡ all_lists ss g
 all_same ss f g h = lists_same f g 0 (map made_of ss) (λ j l. h j (omega (arith, length-map ss made_of)))
 
--- ---- lists that are put one after the other, or constants in their place
+-- ---- lists that are folded
 
-pub list_is : (x y : Design) (a b : List StmtId) {s t : Block} → s ≡ t → ListPut x y a b s → ListPut x y a b t
-list_is x y a b e p = subst (λ (w : Block). ListPut x y a b w) e p
-
-pub none_chosen : (x : Design) (a ids out : List StmtId) (n : ℕ) (number : Option ℤ) → AreThere x a → AreThere x ids → number ≡ None → out ≡ a ++ ids → ListPut x x a out (chosen x n number (block x ids))
-none_chosen x a ids out n number there more e f = rw (e, f) (record {
-  grows = grows_same x;
-  there = search (below_both (length x.stmts) a ids (search there) (search more));
-  block = block_append (design.stmt x) a ids;
-})
+pub copied_put : (x : Design) (s : ℕ) (ids list : List StmtId) (o : Option Folded) → IsFor x s ids → o ≡ None → list ≡ ids → OnePut x x s list (chosen x s o (block x ids)) (chosen_lines o (lines x s ids))
+copied_put x s ids list o h e f = rw (e, f) (record { grows = grows_same x; there = h.there; block = refl; alone = h.alone; lines = refl })
 
 -- the assignment of a constant
-pub constant_listed : (x y z w : Design) (a out : List StmtId) (s : SigId) (number : ℤ) (shape : Shape) (value : ExprId) (t : TargetId) (id : StmtId) (line : ℕ) → AreThere x a → shape ≡ shapes x s.0 → TermPut x y value.place (Constant number shape)
-    → TargetPut y z (target.Whole s) t.place → StmtPut z w (stmt.Assign t value line) id.place → out ≡ a ++ id ∷ [] → ListPut x w a out (constant_in x s.0 number)
-constant_listed x y z w a out s number shape value t id line there same p q r made =
-    let g = grows_then p.grows (grows_then (grows_target y z (target.Whole s) t.place q) (grows_stmt z w (stmt.Assign t value line) id.place r)) in
-    let within : id.place < length w.stmts = omega (arith, r.place, ap (λ (d : Design). length d.stmts) r.is, length_push z.stmts (stmt.Assign t value line)) in
-    let value_is : term z value.place ≡ Constant number (shapes x s.0) = q.stays.terms value.place p.within ∙ p.tree ∙ ap (Constant number) same in
+pub constant_put : (x y z w : Design) (list : List StmtId) (s : SigId) (number : ℤ) (shape : Shape) (value : ExprId) (t : TargetId) (id : StmtId) (line : ℕ) → shape ≡ shapes x s.0 → TermPut x y value.place (Constant number shape)
+    → TargetAdded y z (target.Whole s) t.place → StmtAdded z w (stmt.Assign t value line) id.place → list ≡ id ∷ [] → OnePut x w s.0 list (constant_in x s.0 number) (line ∷ [])
+constant_put x y z w list s number shape value t id line same p q r made =
+    let within : id.place < length w.stmts = omega (arith, r.put.place, ap (λ (d : Design). length d.stmts) r.put.is, length_push z.stmts (stmt.Assign t value line)) in
+    let value_is : term z value.place ≡ Constant number (shapes x s.0) = q.grows.stays.terms value.place p.within ∙ p.tree ∙ ap (Constant number) same in
     let tree_is : design.stmt w id.place ≡ tree.Assign (tree.Whole s.0) (Constant number (shapes x s.0)) =
-    r.tree ∙ ap (λ (u : tree.Target). tree.Assign u (term z value.place)) q.tree ∙ ap (tree.Assign (tree.Whole s.0)) value_is in
+    r.put.tree ∙ ap (λ (u : tree.Target). tree.Assign u (term z value.place)) q.put.tree ∙ ap (tree.Assign (tree.Whole s.0)) value_is in
+    let block_is : block w (id ∷ []) ≡ constant_in x s.0 number = ap one tree_is in
+    let line_is : lines_at w s.0 id.place ≡ line ∷ [] =
+    r.lines s.0 ∙ ap (λ (u : tree.Target). target_lines u line s.0) q.put.tree ∙ ap (λ (b : Bool). replicate (cond b 1 0) line) (eq-eqb s.0 s.0 refl) in
     rw made (record {
-      grows = g;
-      there = search (below_both (length w.stmts) a (id ∷ []) (search (there_kept a g there)) (and_from (nat_lt id.place (length w.stmts)) true (lt-ltb id.place (length w.stmts) within) refl));
-      block = block_append (design.stmt w) a (id ∷ []) ∙ ap (λ (v : Block). append v (one (design.stmt w id.place))) (block_kept a g there) ∙ ap (λ (v : tree.Stmt). append (block x a) (one v)) tree_is;
+      grows = grows_then p.grows (grows_then q.grows r.grows);
+      there = search (and_from (nat_lt id.place (length w.stmts)) true (lt-ltb id.place (length w.stmts) within) refl);
+      block = block_is;
+      alone = ap (are_for s.0) block_is ∙ and_from (nat_eq s.0 s.0) true (eq-eqb s.0 s.0 refl) refl;
+      lines = append-nil (lines_at w s.0 id.place) ∙ line_is;
     })
 
 -- a whole signal as a target
@@ -189,92 +215,120 @@ whole_there x y s shape g l e h = record {
 pub shown_is : (lists : List (List StmtId)) (k : ℕ) (item shown : List StmtId) → k < length lists → item ≡ get_or lists k item → shown ≡ item → shown ≡ list_at lists k
 shown_is lists k item shown l e f = f ∙ e ∙ get_or_default lists k item [] l
 
-pub shown_there : (x y : Design) (lists : List (List StmtId)) (k : ℕ) (shown : List StmtId) → Grows x y → AreForSignals x lists → k < length lists → shown ≡ list_at lists k → AreThere y shown
-shown_there x y lists k shown g h l e = subst (λ (is : List StmtId). AreThere y is) (sym e) (there_kept (list_at lists k) g (h.there k (omega (arith, h.long))))
+pub shown_for : (x y : Design) (lists : List (List StmtId)) (k : ℕ) (shown : List StmtId) → Grows x y → AreForSignals x lists → k < length lists → shown ≡ list_at lists k → IsFor y k shown
+shown_for x y lists k shown g h l e =
+    let m : k < length x.signals = omega (arith, h.long) in
+    let there = h.there k m in
+    subst (λ (is : List StmtId). IsFor y k is) (sym e) (record { there = there_kept (list_at lists k) g there; alone = ap (are_for k) (block_kept (list_at lists k) g there) ∙ h.alone k m })
 
 pub shown_alone : (x : Design) (lists : List (List StmtId)) (k : ℕ) (shown : List StmtId) → AreForSignals x lists → k < length lists → shown ≡ list_at lists k → are_for k (block x shown) ≡ true
 shown_alone x lists k shown h l e = ap (λ (is : List StmtId). are_for k (block x is)) e ∙ h.alone k (omega (arith, h.long))
 
-same_chosen : (x y : Design) (k : ℕ) (o : Option ℤ) (b : Block) → Grows x y → chosen y k o b ≡ chosen x k o b
+same_chosen : (x y : Design) (k : ℕ) (o : Option Folded) (b : Block) → Grows x y → chosen y k o b ≡ chosen x k o b
 same_chosen x y k None b g = refl
-same_chosen x y k (Some v) b g = ap (λ (f : Shapes). one (tree.Assign (tree.Whole k) (Constant v (f k)))) (same_shapes x y g.signals)
+same_chosen x y k (Some f) b g = ap (λ (s : Shapes). one (tree.Assign (tree.Whole k) (Constant f.value (s k)))) (same_shapes x y g.signals)
 
-pub numbers_none : (x : Design) (lists : List (List StmtId)) (numbers : List (Option ℤ)) → numbers ≡ [] → AreNumbers x lists 0 numbers
-numbers_none x lists numbers e = record { long = ap length e; each = λ k l. absurd (omega arith) }
+pub folds_none : (x : Design) (lists : List (List StmtId)) (folds : List (Option Folded)) → folds ≡ [] → AreFolds x lists 0 folds
+folds_none x lists folds e = record { long = ap length e; each = λ k l. absurd (omega arith); first = λ k l. absurd (omega arith) }
 
-pub numbers_more : (x : Design) (lists : List (List StmtId)) (n : ℕ) (numbers more : List (Option ℤ)) (number : Option ℤ) (shown : List StmtId) → AreNumbers x lists n numbers → shown ≡ list_at lists n
-    → chosen x n number (block x shown) ≡ folded_in x n (block x shown) → more ≡ numbers ++ number ∷ [] → AreNumbers x lists (n + 1) more
-numbers_more x lists n numbers more number shown h e f made = rw made (record {
-  long = length_push numbers number ∙ ap (λ (k : ℕ). k + 1) h.long;
-  each = λ k l.
-      elim (cases_lt k n) [
-        | inl p ↦ ap (λ (o : Option ℤ). chosen x k o (block x (list_at lists k))) (get_or_append_left numbers (number ∷ []) None k (omega (arith, h.long))) ∙ h.each k p
-        | inr p ↦
-            let q : n ≡ k = omega arith in
-            ap (λ (o : Option ℤ). chosen x k o (block x (list_at lists k))) (get_or_push numbers number None k (h.long ∙ q))
-            ∙ subst (λ (j : ℕ). chosen x j number (block x (list_at lists j)) ≡ folded_in x j (block x (list_at lists j))) q
-            (subst (λ (is : List StmtId). chosen x n number (block x is) ≡ folded_in x n (block x is)) e f)
-      ];
+-- a fact of each fold, and of one more
+each_fold : (P : ℕ → Option Folded → Type 0) (n : ℕ) (folds : List (Option Folded)) (fold : Option Folded) → length folds ≡ n → ((k : ℕ) → k < n → P k (fold_at folds k)) → P n fold → (k : ℕ) → k < n + 1 → P k (fold_at (folds ++ fold ∷ []) k)
+each_fold P n folds fold long h e k l =
+    elim (cases_lt k n) [
+      | inl p ↦ subst (P k) (sym (get_or_append_left folds (fold ∷ []) None k (omega arith))) (h k p)
+      | inr p ↦
+          let q : n ≡ k = omega arith in
+          subst (P k) (sym (get_or_push folds fold None k (long ∙ q))) (subst (λ (j : ℕ). P j fold) q e)
+    ]
+
+pub folds_more : (x : Design) (lists : List (List StmtId)) (n : ℕ) (folds more : List (Option Folded)) (fold : Option Folded) (shown : List StmtId) → AreFolds x lists n folds → shown ≡ list_at lists n
+    → chosen x n fold (block x shown) ≡ folded_in x n (block x shown) → IsFirst fold (lines x n shown) → more ≡ folds ++ fold ∷ [] → AreFolds x lists (n + 1) more
+folds_more x lists n folds more fold shown h e f g made = rw made (record {
+  long = length_push folds fold ∙ ap (λ (k : ℕ). k + 1) h.long;
+  each = each_fold (λ k o. chosen x k o (block x (list_at lists k)) ≡ folded_lists x lists k) n folds fold h.long h.each (subst (λ (is : List StmtId). chosen x n fold (block x is) ≡ folded_in x n (block x is)) e f);
+  first = each_fold (λ k o. IsFirst o (lines x k (list_at lists k))) n folds fold h.long h.first (subst (λ (is : List StmtId). IsFirst fold (lines x n is)) e g);
 })
 
--- the lists from one signal on
-next_list : (ss : List Signal) (f : ℕ → Block) (k : ℕ) → k < length ss → lists_after ss f k ≡ append (f k) (lists_after ss f (k + 1))
-next_list ss f k l = ap (lists_from f k) (next_item (map made_of ss) k nothing (omega (arith, length-map ss made_of, l)))
+-- ---- lists that are made one after the other
 
-pub chosen_more : (u x y : Design) (k : ℕ) (lists : List (List StmtId)) (numbers : List (Option ℤ)) (number d : Option ℤ) (shown a b : List StmtId) (whole : Block) → AreForSignals u lists → AreNumbers u lists (length u.signals) numbers → k < length lists
-    → shown ≡ list_at lists k → number ≡ get_or numbers k d → ListSome u x a whole (lists_after u.signals (folded_lists u lists) k) → ListPut x y a b (chosen x k number (block x shown))
-    → ListSome u y b whole (lists_after u.signals (folded_lists u lists) (k + 1))
-chosen_more u x y k lists numbers number d shown a b whole h m l e f p q =
-    let ss = u.signals in
-    let g = folded_lists u lists in
-    let i : k < length ss = omega (arith, h.long) in
-    let old : block x shown ≡ block u (list_at lists k) = ap (block x) e ∙ block_kept (list_at lists k) p.grows (h.there k i) in
-    let own : chosen x k number (block x shown) ≡ g k =
-    same_chosen u x k number (block x shown) p.grows
-    ∙ ap (chosen u k number) old
-    ∙ ap (λ (o : Option ℤ). chosen u k o (block u (list_at lists k))) (f ∙ get_or_default numbers k d None (omega (arith, m.long, i)))
-    ∙ m.each k i in
-    let rest = lists_after ss g (k + 1) in
-    record {
-      grows = grows_then p.grows q.grows;
-      there = q.there;
-      block =
-          ap (λ (w : Block). append w rest) (q.block ∙ ap (append (block x a)) own)
-          ∙ append_all (block x a) (g k) rest
-          ∙ ap (append (block x a)) (sym (next_list ss g k i))
-          ∙ p.block;
-    }
-
-pub chosen_all : (u x : Design) (k : ℕ) (f : ℕ → Block) (a : List StmtId) (whole : Block) → length u.signals ≤ k → ListSome u x a whole (lists_after u.signals f k) → ListPut u x [] a whole
-chosen_all u x k f a whole l p = record {
-  grows = p.grows;
-  there = p.there;
-  block =
-      sym (append_done (block x a))
-      ∙ ap (append (block x a)) (sym (ap (lists_from f k) (drop_all k (map made_of u.signals) (omega (arith, length-map u.signals made_of, l)))))
-      ∙ p.block;
+pub lists_none : (x : Design) (lists : List (List StmtId)) (f : ℕ → Block) (ls : ℕ → List ℕ) → lists ≡ [] → ListsPut x x 0 lists f ls
+lists_none x lists f ls e = record {
+  grows = grows_same x;
+  long = ap length e;
+  there = λ k l. absurd (omega arith);
+  blocks = λ k l. absurd (omega arith);
+  alone = λ k l. absurd (omega arith);
+  lines = λ k l. absurd (omega arith);
 }
 
-pub chosen_none : (u : Design) (f : ℕ → Block) (a : List StmtId) → a ≡ [] → ListSome u u a (all_lists u.signals f) (lists_after u.signals f 0)
-chosen_none u f a e = rw e (record { grows = grows_same u; there = search; block = refl })
+-- a fact of each list, and of one more
+each_list : (P : ℕ → List StmtId → Type 0) (n : ℕ) (lists : List (List StmtId)) (list : List StmtId) → length lists ≡ n → ((k : ℕ) → k < n → P k (list_at lists k)) → P n list → (k : ℕ) → k < n + 1 → P k (list_at (lists ++ list ∷ []) k)
+each_list P n lists list long h e k l =
+    elim (cases_lt k n) [
+      | inl p ↦ subst (P k) (sym (get_or_append_left lists (list ∷ []) [] k (omega arith))) (h k p)
+      | inr p ↦
+          let q : n ≡ k = omega arith in
+          subst (P k) (sym (get_or_push lists list [] k (long ∙ q))) (subst (λ (j : ℕ). P j list) q e)
+    ]
+
+pub lists_more : (u x y : Design) (n : ℕ) (lists more : List (List StmtId)) (list : List StmtId) (f : ℕ → Block) (ls : ℕ → List ℕ) (b : Block) (bl : List ℕ) → ListsPut u x n lists f ls → OnePut x y n list b bl → b ≡ f n → bl ≡ ls n → more ≡ lists ++ list ∷ [] → ListsPut u y (n + 1) more f ls
+lists_more u x y n lists more list f ls b bl h p e d made = rw made (record {
+  grows = grows_then h.grows p.grows;
+  long = length_push lists list ∙ ap (λ (k : ℕ). k + 1) h.long;
+  there = each_list (λ k is. AreThere y is) n lists list h.long (λ k l. there_kept (list_at lists k) p.grows (h.there k l)) p.there;
+  blocks = each_list (λ k is. block y is ≡ f k) n lists list h.long (λ k l. block_kept (list_at lists k) p.grows (h.there k l) ∙ h.blocks k l) (p.block ∙ e);
+  alone = each_list (λ k is. are_for k (block y is) ≡ true) n lists list h.long (λ k l. ap (are_for k) (block_kept (list_at lists k) p.grows (h.there k l)) ∙ h.alone k l) p.alone;
+  lines = each_list (λ k is. lines y k is ≡ ls k) n lists list h.long (λ k l. lines_kept k (list_at lists k) p.grows (h.there k l) ∙ h.lines k l) (p.lines ∙ d);
+})
+
+pub lists_all : (u x : Design) (n m : ℕ) (lists : List (List StmtId)) (f : ℕ → Block) (ls : ℕ → List ℕ) → n ≡ m → ListsPut u x n lists f ls → ListsPut u x m lists f ls
+lists_all u x n m lists f ls e h = subst (λ (k : ℕ). ListsPut u x k lists f ls) e h
+
+-- one that is folded
+pub folded_more : (u x y : Design) (k : ℕ) (lists outs more : List (List StmtId)) (folds : List (Option Folded)) (fold d : Option Folded) (shown list : List StmtId) → AreForSignals u lists → AreFolds u lists (length u.signals) folds → k < length lists
+    → shown ≡ list_at lists k → fold ≡ get_or folds k d → ListsPut u x k outs (folded_lists u lists) (fold_lines u lists folds) → OnePut x y k list (chosen x k fold (block x shown)) (chosen_lines fold (lines x k shown)) → more ≡ outs ++ list ∷ []
+    → ListsPut u y (k + 1) more (folded_lists u lists) (fold_lines u lists folds)
+folded_more u x y k lists outs more folds fold d shown list h m l e f p q made =
+    let i : k < length u.signals = omega (arith, h.long) in
+    let own = f ∙ get_or_default folds k d None (omega (arith, m.long, i)) in
+    let old : block x shown ≡ block u (list_at lists k) = ap (block x) e ∙ block_kept (list_at lists k) p.grows (h.there k i) in
+    let old_lines : lines x k shown ≡ lines u k (list_at lists k) = ap (lines x k) e ∙ lines_kept k (list_at lists k) p.grows (h.there k i) in
+    let block_is : chosen x k fold (block x shown) ≡ folded_lists u lists k =
+    same_chosen u x k fold (block x shown) p.grows ∙ ap (chosen u k fold) old ∙ ap (λ (o : Option Folded). chosen u k o (block u (list_at lists k))) own ∙ m.each k i in
+    let lines_are : chosen_lines fold (lines x k shown) ≡ fold_lines u lists folds k = ap (chosen_lines fold) old_lines ∙ ap (λ (o : Option Folded). chosen_lines o (lines u k (list_at lists k))) own in
+    lists_more u x y k outs more list (folded_lists u lists) (fold_lines u lists folds) (chosen x k fold (block x shown)) (chosen_lines fold (lines x k shown)) p q block_is lines_are made
+
+-- the first line of some
+first_alone : (o : Option Folded) (ls : List ℕ) → IsFirst o ls → KeepsLines ls (chosen_lines o ls)
+first_alone None ls h = inl refl
+first_alone (Some f) [] h = absurd (cc)
+first_alone (Some f) (l ∷ ls) h = let same : l ≡ f.line = cc in inr (ap (λ (k : ℕ). k ∷ []) (sym same))
 
 -- the folded lists of a design's statements
-pub folded_put : (d x y z : Design) (ids : List StmtId) (lists : List (List StmtId)) (list : List StmtId) → y.signals ≡ d.signals → ListsPut x y lists (split_of d ids) → ListPut y z [] list (all_lists y.signals (folded_lists y lists)) → ListPut x z [] list (folded_of d ids)
-folded_put d x y z ids lists list same h p =
-    let each = λ (j : ℕ) (l : j < length y.signals).
-    ap (folded_in y j) (h.blocks j l) ∙ ap (λ (f : Shapes). folded f j (reset_of y j) (split_of d ids j)) (same_shapes d y same) ∙ ap (λ (n : ℤ). folded (shapes d) j n (split_of d ids j)) (same_reset d y j same) in
+pub comb_put : (d x y z : Design) (ids : List StmtId) (lists : List (List StmtId)) (folds : List (Option Folded)) (list : List StmtId) → y.signals ≡ d.signals → ListsPut x y (length y.signals) lists (split_of d ids) (lines_for d ids) → AreFolds y lists (length y.signals) folds
+    → ListPut y z list (all_lists d.signals (folded_lists y lists)) (fold_lines y lists folds) → CombPut x z list (folded_of d ids) (lines_for d ids)
+comb_put d x y z ids lists folds list same h m p =
+    let each = λ (j : ℕ) (l : j < length d.signals).
+    ap (folded_in y j) (h.blocks j (omega (arith, ap length same))) ∙ ap (λ (f : Shapes). folded f j (reset_of y j) (split_of d ids j)) (same_shapes d y same) ∙ ap (λ (n : ℤ). folded (shapes d) j n (split_of d ids j)) (same_reset d y j same) in
     record {
       grows = grows_then h.grows p.grows;
       there = p.there;
-      block = p.block ∙ all_same y.signals (folded_lists y lists) (λ j. folded_in d j (split_of d ids j)) each ∙ ap (λ (ss : List Signal). all_lists ss (λ j. folded_in d j (split_of d ids j))) same;
+      block = p.block ∙ all_same d.signals (folded_lists y lists) (λ j. folded_in d j (split_of d ids j)) each;
+      lines = λ k l.
+          let i : k < length y.signals = omega (arith, as_many p.grows, l) in
+          subst (λ (ms : List ℕ). KeepsLines (lines_for d ids k) ms) (sym (p.lines k l ∙ ap (chosen_lines (fold_at folds k)) (h.lines k i)))
+          (first_alone (fold_at folds k) (lines_for d ids k) (subst (IsFirst (fold_at folds k)) (h.lines k i) (m.first k i)));
     }
 
 -- ---- parts
 
+pub list_is : (x y : Design) (a : List StmtId) (s t : Block) (ls ms : ℕ → List ℕ) → s ≡ t → ((k : ℕ) → ls k ≡ ms k) → ListPut x y a s ls → ListPut x y a t ms
+list_is x y a s t ls ms e f p = record { grows = p.grows; there = p.there; block = p.block ∙ e; lines = λ k l. p.lines k l ∙ f k }
+
 pub parts_none : (d x : Design) (parts : List SyncPart) → parts ≡ [] → PartsPut d x x 0 parts
 parts_none d x parts e = record {
   grows = grows_same x;
-  are = record { long = ap length e; domain = λ k l. absurd (omega arith); there = λ k l. absurd (omega arith); blocks = λ k l. absurd (omega arith) };
+  are = record { long = ap length e; domain = λ k l. absurd (omega arith); there = λ k l. absurd (omega arith); blocks = λ k l. absurd (omega arith); lines = λ k s l. absurd (omega arith) };
 }
 
 -- a fact of each part, and of one more
@@ -288,7 +342,7 @@ each_part P n parts part long h e k l =
           subst (P k) (sym (get_or_push parts part d k (long ∙ q))) (subst (λ (j : ℕ). P j part) q e)
     ]
 
-pub parts_more : (d u x y : Design) (n : ℕ) (parts more : List SyncPart) (stmts : List StmtId) → PartsPut d u x n parts → ListPut x y [] stmts (sync_lists d n) → more ≡ parts ++ (record { domain = n; stmts = stmts }) ∷ [] → PartsPut d u y (n + 1) more
+pub parts_more : (d u x y : Design) (n : ℕ) (parts more : List SyncPart) (stmts : List StmtId) → PartsPut d u x n parts → ListPut x y stmts (sync_lists d n) (sync_lines d n) → more ≡ parts ++ (record { domain = n; stmts = stmts }) ∷ [] → PartsPut d u y (n + 1) more
 parts_more d u x y n parts more stmts h p made =
     let part : SyncPart = record { domain = n; stmts = stmts } in
     let g = sync_lists d in
@@ -299,5 +353,6 @@ parts_more d u x y n parts more stmts h p made =
         domain = each_part (λ k q. q.domain ≡ k) n parts part h.are.long h.are.domain refl;
         there = each_part (λ k q. AreThere y q.stmts) n parts part h.are.long (λ k l. there_kept (part_at parts k).stmts p.grows (h.are.there k l)) p.there;
         blocks = each_part (λ k q. block y q.stmts ≡ g k) n parts part h.are.long (λ k l. block_kept (part_at parts k).stmts p.grows (h.are.there k l) ∙ h.are.blocks k l) p.block;
+        lines = λ k s l m. each_part (λ j q. lines y s q.stmts ≡ sync_lines d j s) n parts part h.are.long (λ j i. lines_kept s (part_at parts j).stmts p.grows (h.are.there j i) ∙ h.are.lines j s i (omega (arith, as_many p.grows, m))) (p.lines s m) k l;
       };
     })

@@ -26,13 +26,15 @@ use Rattle.lx_lowering.proofs.Law.{lowering}
 use Rattle.lx_lowering.proofs.ListFacts.{lists_plain}
 use Rattle.lx_lowering.proofs.Lowering.{sync_depth, comb_depth}
 use Rattle.lx_lowering.proofs.Appends.{depth_append}
-use Rattle.lx_lower.specs.Lists.{AreParts, AreThere, ListPut, PartsPut, folded_of, lists_of, part_at, split_of, sync_lists}
+use Rattle.lx_lower.specs.Lines.{lines, lines_at}
+use Rattle.lx_lower.specs.Lists.{AreParts, AreThere, CombPut, KeepsLines, PartsPut, folded_of, lists_of, part_at, split_of, sync_lines, sync_lists}
+use Rattle.lx_lower.specs.Puts.{lines_for}
 use Rattle.lx_lower.specs.Lowers.{IsLoweringOf}
 use Rattle.lx_lower.specs.Plain as plain
 use Rattle.lx_lower.proofs.BySignal.{split_is_alone, sync_there}
 use Rattle.lx_lower.proofs.FromKeeps.{can_be_lowered}
 use Rattle.lx_lower.proofs.Listing.{there_kept}
-use Rattle.lx_lower.proofs.Puts.{block_append, block_kept}
+use Rattle.lx_lower.proofs.Puts.{as_many, block_append, block_kept, lines_kept}
 
 -- what lowering made: arenas, and lists of statements in them
 record Lists : Type 0 where
@@ -62,7 +64,8 @@ record AreMade (d : Design) (w : Lists) : Type 0 where
   plain : plain.ArePlain (made d w)
   there : AreThere (made d w) w.comb
   comb : design.block (made d w) w.comb ≡ folded_of d d.comb
-  sync : AreParts (made d w) (length d.domains) w.sync (sync_lists d)
+  comb_lines : (x : ℕ) → x < length d.signals → KeepsLines (lines d x d.comb) (lines (made d w) x w.comb)
+  sync : AreParts (made d w) (length d.domains) w.sync (sync_lists d) (sync_lines d)
 
 -- ---- the statements of a domain are those of its part
 
@@ -252,6 +255,12 @@ made_is d w keep h = record {
   ios = refl;
   circuit = circuit_is d w h;
   lowers = lowers d w keep h;
+  lines = record {
+    comb = h.comb_lines;
+    sync = λ x k l m.
+        ap (lines (made d w) x) (one_part 0 k k w.sync (λ j i. h.sync.domain j (omega (arith, h.sync.long)) ∙ omega arith) (omega (arith, h.sync.long)) (omega arith))
+        ∙ h.sync.lines k x m l;
+  };
 }
 
 -- ---- the draft that was finished
@@ -262,11 +271,12 @@ pub record IsFinished (d x : Design) (comb : List StmtId) (sync : List SyncPart)
   pub plain : plain.ArePlain x
   pub there : AreThere x comb
   pub block : design.block x comb ≡ folded_of d d.comb
-  pub parts : AreParts x (length d.domains) sync (sync_lists d)
+  pub lines : (s : ℕ) → s < length x.signals → KeepsLines (lines d s d.comb) (lines x s comb)
+  pub parts : AreParts x (length d.domains) sync (sync_lists d) (sync_lines d)
 
 finished_is : (d x : Design) (comb : List StmtId) (sync : List SyncPart) → Keeps d → IsFinished d (record x { signals = d.signals; memories = d.memories }) comb sync
     → IsLoweringOf d (record x { signals = d.signals; memories = d.memories; comb = comb; sync = sync; domains = d.domains; ports = d.ports; ios = d.ios })
-unfolding circuit_of
+unfolding circuit_of lines_at
 finished_is d x comb sync keep h =
     let w : Lists = record { exprs = x.exprs; targets = x.targets; stmts = x.stmts; comb = comb; sync = sync } in
     made_is d w keep (record {
@@ -274,7 +284,8 @@ finished_is d x comb sync keep h =
       plain = h.plain;
       there = h.there;
       comb = h.block;
-      sync = record { long = h.parts.long; domain = h.parts.domain; there = h.parts.there; blocks = h.parts.blocks };
+      comb_lines = h.lines;
+      sync = record { long = h.parts.long; domain = h.parts.domain; there = h.parts.there; blocks = h.parts.blocks; lines = h.parts.lines };
     })
 
 -- the design of the lists, with copies of the signals, memories, domains and ports
@@ -287,11 +298,12 @@ is_lowering d x comb sync ds ports ios keep e f h g i j =
     rw (g, i, j) (subst (λ (y : Design). IsLoweringOf d (record y { comb = comb; sync = sync; domains = d.domains; ports = d.ports; ios = d.ios })) (sym same) own)
 
 -- the draft after its lists were put
-pub finished_as : (d x y z : Design) (comb : List StmtId) (sync : List SyncPart) → DraftKeeps z → plain.ArePlain z → ListPut x y [] comb (folded_of d d.comb) → PartsPut d y z (length d.domains) sync → IsFinished d z comb sync
+pub finished_as : (d x y z : Design) (comb : List StmtId) (sync : List SyncPart) → DraftKeeps z → plain.ArePlain z → CombPut x y comb (folded_of d d.comb) (lines_for d d.comb) → PartsPut d y z (length d.domains) sync → IsFinished d z comb sync
 finished_as d x y z comb sync keeps plain p q = record {
   keeps = keeps;
   plain = plain;
   there = there_kept comb q.grows p.there;
   block = block_kept comb q.grows p.there ∙ p.block;
+  lines = λ s l. subst (KeepsLines (lines d s d.comb)) (sym (lines_kept s comb q.grows p.there)) (p.lines s (omega (arith, as_many q.grows, l)));
   parts = q.are;
 }

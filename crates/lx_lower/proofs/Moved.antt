@@ -17,7 +17,7 @@ use Rattle.lx_circuit.specs.Values.{count_of}
 use Rattle.lx_circuit.specs.declared.WidthFault.TheVariants.{SignedShift}
 use Rattle.lx_fhdl.specs.Below.{ExprId, all_below, expr_below}
 use Rattle.lx_fhdl.specs.Instance.{the_expr}
-use Rattle.lx_fhdl.specs.Keeping.{NamesThere, TakesOperands}
+use Rattle.lx_fhdl.specs.Keeping.{HasPlainIndex, NamesThere, TakesOperands}
 use Rattle.lx_fhdl.specs.Lowered.{is_no_pick}
 use Rattle.lx_fhdl.specs.Nodes.{HasParts, IsSmall}
 use Rattle.lx_fhdl.specs.Trees.{terms_at, node_term, term_at}
@@ -30,12 +30,12 @@ use Rattle.lx_fhdl.proofs.Trees.{term_at-is}
 use Rattle.lx_lowering.specs.Terms.{cut_amount, lower_binary, lower_term, lower_terms, pick_from}
 use Rattle.lx_lowering.proofs.LowerTerms.{cut_shape, lower_shape, lower_shapes, lower_keeps}
 use Rattle.lx_fhdl.specs.Designs.{shapes, term as tree}
-use Rattle.lx_fhdl.specs.Drafts.{DraftKeeps, ExprPut, started}
+use Rattle.lx_fhdl.specs.Drafts.{DraftKeeps, started}
 use Rattle.lx_fhdl.specs.declared.design.Memory.{Memory}
 use Rattle.lx_fhdl.specs.declared.design.Signal.{Signal}
 use Rattle.lx_lower.proofs.Conditions.{term_put}
 use Rattle.lx_lower.specs.Operands.{CanJoin, HasShape}
-use Rattle.lx_lower.specs.Plain.{CanAdd, TermPut}
+use Rattle.lx_lower.specs.Plain.{CanAdd, ExprAdded, TermPut}
 use Rattle.lx_lower.specs.Sources.{CanPick, IsAmount, IsLowered, IsNext, IsRead, Read, moved_to, moved_node, place_at}
 use Rattle.lx_lower.specs.declared.operands.Operand.{Operand}
 use Rattle.lx_lower.proofs.Choices.{all_keep, items_keep}
@@ -359,6 +359,26 @@ names_kept n ms places (Replicate of count) h = h
 names_kept n ms places (Slice of low high) h = h
 names_kept n ms places (Fetch memory width at) h = h
 
+-- the index of a read of a word has the same shape
+index_kept : (r : Read) (d : Design) (x : Expr) → IsRead r → IsLowered r d → expr_below x (length r.places) ≡ true → HasPlainIndex (shapes r.design) r.design.exprs x → HasPlainIndex (shapes d) d.exprs (moved_node r.places x)
+index_kept r d (Const value bits signed) read low e h = tt
+index_kept r d (Sig x) read low e h = tt
+index_kept r d (Unary o of) read low e h = tt
+index_kept r d (Binary o left right) read low e h = tt
+index_kept r d (Mux c then_ else_) read low e h = tt
+index_kept r d (Cat parts) read low e h = tt
+index_kept r d (Pick items index) read low e h = tt
+index_kept r d (Replicate of count) read low e h = tt
+index_kept r d (Slice of low_ high) read low e h = tt
+index_kept r d (Fetch memory width at) read low e h =
+    let s = shapes r.design in
+    let n = length r.design.signals in
+    let here = at.place in
+    ap (λ (u : Shapes). (shape_of u (tree d (moved_to r.places at).place)).signed) (same_shapes r.design d low.signals)
+    ∙ ap (λ (t : Term). (shape_of s t).signed) ((are_moved r d read low).trees here (ltb-true here (length r.places) e))
+    ∙ ap (λ (a : Shape). a.signed) (lower_shape s n (tree r.design here) (term_keeps s n r.design.memories r.design.exprs here (sound r.design (arenas r.design read.keeps)) (below_most r at read e)))
+    ∙ h
+
 pub plain_kept : (places : List ExprId) (x : Expr) → NoPick x → is_no_pick (moved_node places x) ≡ true
 plain_kept places (Const value bits signed) p = refl
 plain_kept places (Sig x) p = refl
@@ -389,11 +409,12 @@ plain_added r d x read low n b p =
         parts = parts_kept r.places x n.sound.parts;
         named = subst (λ (ms : List Memory). NamesThere (length d.signals) ms (moved_node r.places x)) (sym low.memories)
             (subst (λ (ss : List Signal). NamesThere (length ss) r.design.memories (moved_node r.places x)) (sym low.signals) (names_kept count r.design.memories r.places x n.sound.named));
+        index = index_kept r d x read low below n.sound.index;
       };
       plain = plain_kept r.places x p;
     }
 
-pub plain_put : (r : Read) (d e : Design) (x : Expr) (id : ℕ) → IsRead r → IsLowered r d → IsNext r x → NoBinary x → NoPick x → ExprPut d e (moved_node r.places x) id → TermPut d e id (lower_term (shapes r.design) (node_term (tree r.design) x))
+pub plain_put : (r : Read) (d e : Design) (x : Expr) (id : ℕ) → IsRead r → IsLowered r d → IsNext r x → NoBinary x → NoPick x → ExprAdded d e (moved_node r.places x) id → TermPut d e id (lower_term (shapes r.design) (node_term (tree r.design) x))
 plain_put r d e x id read low n b p q =
     put_is d e id (node_term (tree d) (moved_node r.places x)) (lower_term (shapes r.design) (node_term (tree r.design) x)) (term_put d e (moved_node r.places x) id q)
     (plain_term (shapes r.design) r.design.exprs d.exprs r.places x (are_moved r d read low) (search n.below) b p)
@@ -429,5 +450,5 @@ next_node r x read at =
     let own = item_sound (shapes r.design) (length r.design.signals) r.design.memories r.design.exprs (length r.places) x (sound r.design (arenas r.design read.keeps)) at in
     record {
       below = search (lower_at expr_below r.design.exprs read.keeps.arenas.exprs_lower (length r.places) x at);
-      sound = record { below = own.below; shaped = own.shaped; operands = own.operands; parts = own.parts; named = own.named };
+      sound = record { below = own.below; shaped = own.shaped; operands = own.operands; parts = own.parts; named = own.named; index = read.keeps.arenas.indices (length r.places) x at };
     }

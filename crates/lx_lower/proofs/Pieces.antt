@@ -2,6 +2,7 @@
 use Rattle.std.proofs.Common.{◌≡◌, ℕ, zero, suc, ◌+◌, ◌<◌, ◌≤◌, ◌≢◌, Bool, true, false, List, [], ◌∷◌, length, drop, get_or, nat_eq, nat_lt, refl, sym, ap, subst, ◌∙◌, arith, length-drop, eq-eqb, ne_eqb, eqb-true}
 use Rattle.std.specs.Prelude.{cond, IsTrue}
 use Rattle.std.proofs.lemmas.Bool.{and_parts, ltb-true}
+use Rattle.std.proofs.lemmas.List.{replicate-append-replicate}
 use Rattle.lx_fhdl.specs.declared.exprs.Expr.{Expr}
 use Rattle.lx_circuit.specs.Shapes.{Shapes, shape_of}
 use Rattle.lx_circuit.specs.Statements as tree
@@ -17,7 +18,7 @@ use Rattle.lx_fhdl.specs.declared.exprs.SigId.{SigId}
 use Rattle.lx_fhdl.specs.declared.stmts.Target.{Target}
 use Rattle.lx_fhdl.specs.declared.stmts.Target.TheVariants as target
 use Rattle.lx_lowering.specs.Flat.{append, when, without_low, is_last, item_assigns, assigns, parts_assigns, items_assigns}
-use Rattle.lx_lowering.specs.Split.{split_block}
+use Rattle.lx_lower.specs.Lines.{both_lines, target_lines, targets_lines, times, times_in}
 use Rattle.lx_lower.specs.Operands.{HasShape}
 use Rattle.lx_lower.specs.Owned.{AreOwned, CanAssign, Put, PutSome, PutUnder}
 use Rattle.lx_lower.specs.Plain.{Grows, TermPut}
@@ -26,7 +27,7 @@ use Rattle.lx_lower.specs.Sources.{IsLowered, Read, place_at}
 use Rattle.lx_lower.specs.declared.operands.Operand.{Operand}
 use Rattle.lx_lower.specs.declared.owned.Own.{Own}
 use Rattle.lx_lower.proofs.Items.{next_item, nothing_left}
-use Rattle.lx_lower.proofs.Puts.{as_many, own_kept, owned_kept, some_is, some_more, some_grown, some_all, when_under}
+use Rattle.lx_lower.proofs.Puts.{holds_is, holds_kept, holds_new, some_is, some_lines, some_more, some_grown, some_all, when_under}
 use Rattle.lx_lower.proofs.Sound.{grows_same, grows_then, same_shapes, term_kept}
 
 -- ---- nodes of the design
@@ -159,29 +160,41 @@ items_next s g xs k z i e last l m h =
         let n : k + 1 ≡ length xs → ⊥ = λ q. absurd (omega (arith, length-drop (k + 1) xs, ap length f)) in
         ap (λ (b : Bool). append (when (choice s i k b) own) (items_assigns s (k + 1) (targets_at g (y ∷ ys)) i e)) (sym (h ∙ ne_eqb (k + 1) (length xs) n))
 
--- one item more
-pub items_more : (s : Shapes) (g : ℕ → tree.Target) (xs : List TargetId) (k : ℕ) (d : TargetId) (i e f h : Term) (last : Bool) (test : ℕ) {u x y z w : Design} {then_ a b c : List Own} {whole : Block} → k < length xs → length xs ≢ 1 → last ≡ nat_eq (k + 1) (length xs) → f ≡ e → h ≡ i
-    → PutSome u x a b whole (items_assigns s k (targets_at g (drop k xs)) i e) → Put x y [] then_ (assigns s (g (get_or xs k d).place) f) → shapes y ≡ s → TermPut y z test (choice (shapes y) h k last) → PutUnder z w b c (term z test) then_ []
-    → PutSome u w a c whole (items_assigns s (k + 1) (targets_at g (drop (k + 1) xs)) i e)
-items_more s g xs k d i e f h last test {z = z} {then_ = then_} {b = b} l m n o q p own sy r when_ =
-    let tree : term z test ≡ choice s i k last = r.tree ∙ ap (λ (v : Shapes). choice v h k last) sy ∙ ap (λ (j : Term). choice s j k last) q in
-    some_more
-    (some_is (items_next s g xs k d i e last l m n) p)
-    (when_under test (grows_then own.grows r.grows) p.owned (owned_kept then_ r.grows own.owned)
-    (λ j t. own_kept then_ j r.grows own.owned ∙ own.own j (omega (arith, as_many r.grows)) ∙ ap (λ (v : Term). split_block j (assigns s (g (get_or xs k d).place) v)) o) tree when_)
+-- the lines of a target and of those after it
+next_lines : (g : ℕ → tree.Target) (xs : List TargetId) (k : ℕ) (d : TargetId) (line : ℕ) → k < length xs → (x : ℕ) → targets_lines (targets_at g (drop k xs)) line x ≡ both_lines (target_lines (g (get_or xs k d).place) line) (targets_lines (targets_at g (drop (k + 1) xs)) line) x
+next_lines g xs k d line l x =
+    ap (λ (ys : List TargetId). targets_lines (targets_at g ys) line x) (next_item xs k d l) ∙ sym (replicate-append-replicate (times x (g (get_or xs k d).place)) (times_in x (targets_at g (drop (k + 1) xs))) line)
 
-pub items_done : (s : Shapes) (g : ℕ → tree.Target) (xs : List TargetId) (k : ℕ) (i e : Term) {u x : Design} {a b : List Own} {whole : Block} → length xs ≤ k → PutSome u x a b whole (items_assigns s k (targets_at g (drop k xs)) i e) → Put u x a b whole
-items_done s g xs k i e l p = some_all (some_is (ap (λ (ys : List TargetId). items_assigns s k (targets_at g ys) i e) (nothing_left xs k l)) p)
+done_lines : (g : ℕ → tree.Target) (xs : List TargetId) (k line : ℕ) → length xs ≤ k → (x : ℕ) → targets_lines (targets_at g (drop k xs)) line x ≡ []
+done_lines g xs k line l x = ap (λ (ys : List TargetId). targets_lines (targets_at g ys) line x) (nothing_left xs k l)
+
+-- one item more
+pub items_more : (s : Shapes) (g : ℕ → tree.Target) (xs : List TargetId) (k line : ℕ) (d : TargetId) (i e f h : Term) (last : Bool) (test : ℕ) {u x y z w : Design} {then_ a b c : List Own} {whole : Block} {ls : ℕ → List ℕ} → k < length xs → length xs ≢ 1 → last ≡ nat_eq (k + 1) (length xs) → f ≡ e → h ≡ i
+    → PutSome u x a b whole (items_assigns s k (targets_at g (drop k xs)) i e) ls (targets_lines (targets_at g (drop k xs)) line)
+    → Put x y [] then_ (assigns s (g (get_or xs k d).place) f) (target_lines (g (get_or xs k d).place) line) → shapes y ≡ s → TermPut y z test (choice (shapes y) h k last) → PutUnder z w b c (term z test) then_ []
+    → PutSome u w a c whole (items_assigns s (k + 1) (targets_at g (drop (k + 1) xs)) i e) ls (targets_lines (targets_at g (drop (k + 1) xs)) line)
+items_more s g xs k line d i e f h last test {z = z} {then_ = then_} {b = b} l m n o q p own sy r when_ =
+    let tree : term z test ≡ choice s i k last = r.tree ∙ ap (λ (v : Shapes). choice v h k last) sy ∙ ap (λ (j : Term). choice s j k last) q in
+    let t = g (get_or xs k d).place in
+    some_more
+    (some_lines (next_lines g xs k d line l) (some_is (items_next s g xs k d i e last l m n) p))
+    (when_under test (assigns s t e) (grows_then own.grows r.grows) p.owned (holds_is (ap (assigns s t) o) (holds_kept r.grows (holds_new own))) tree when_)
+
+pub items_done : (s : Shapes) (g : ℕ → tree.Target) (xs : List TargetId) (k line : ℕ) (i e : Term) {u x : Design} {a b : List Own} {whole : Block} {ls : ℕ → List ℕ} → length xs ≤ k
+    → PutSome u x a b whole (items_assigns s k (targets_at g (drop k xs)) i e) ls (targets_lines (targets_at g (drop k xs)) line) → Put u x a b whole ls
+items_done s g xs k line i e l p = some_all (done_lines g xs k line l) (some_is (ap (λ (ys : List TargetId). items_assigns s k (targets_at g ys) i e) (nothing_left xs k l)) p)
 
 -- one part more
-pub parts_more : (s : Shapes) (g : ℕ → tree.Target) (xs : List TargetId) (k : ℕ) (d : TargetId) (e f : Term) (last : Bool) {u x y z : Design} {a b c : List Own} {whole : Block} → k < length xs → last ≡ nat_eq (k + 1) (length xs)
+pub parts_more : (s : Shapes) (g : ℕ → tree.Target) (xs : List TargetId) (k line : ℕ) (d : TargetId) (e f : Term) (last : Bool) {u x y z : Design} {a b c : List Own} {whole : Block} {ls : ℕ → List ℕ} → k < length xs → last ≡ nat_eq (k + 1) (length xs)
     → (last ≡ false → f ≡ without_low s (target_bits s (g (get_or xs k d).place)) e)
-    → PutSome u x a b whole (parts_assigns s (targets_at g (drop k xs)) e) → Put x y b c (assigns s (g (get_or xs k d).place) e) → Grows y z
-    → PutSome u z a c whole (parts_assigns s (targets_at g (drop (k + 1) xs)) f)
-parts_more s g xs k d e f last l n o p q grows = some_grown (some_more (some_is (parts_next s g xs k d e f last l n o) p) q) grows
+    → PutSome u x a b whole (parts_assigns s (targets_at g (drop k xs)) e) ls (targets_lines (targets_at g (drop k xs)) line)
+    → Put x y b c (assigns s (g (get_or xs k d).place) e) (target_lines (g (get_or xs k d).place) line) → Grows y z
+    → PutSome u z a c whole (parts_assigns s (targets_at g (drop (k + 1) xs)) f) ls (targets_lines (targets_at g (drop (k + 1) xs)) line)
+parts_more s g xs k line d e f last l n o p q grows = some_grown (some_more (some_lines (next_lines g xs k d line l) (some_is (parts_next s g xs k d e f last l n o) p)) q) grows
 
-pub parts_done : (s : Shapes) (g : ℕ → tree.Target) (xs : List TargetId) (k : ℕ) (e : Term) {u x : Design} {a b : List Own} {whole : Block} → length xs ≤ k → PutSome u x a b whole (parts_assigns s (targets_at g (drop k xs)) e) → Put u x a b whole
-parts_done s g xs k e l p = some_all (some_is (ap (λ (ys : List TargetId). parts_assigns s (targets_at g ys) e) (nothing_left xs k l)) p)
+pub parts_done : (s : Shapes) (g : ℕ → tree.Target) (xs : List TargetId) (k line : ℕ) (e : Term) {u x : Design} {a b : List Own} {whole : Block} {ls : ℕ → List ℕ} → length xs ≤ k
+    → PutSome u x a b whole (parts_assigns s (targets_at g (drop k xs)) e) ls (targets_lines (targets_at g (drop k xs)) line) → Put u x a b whole ls
+parts_done s g xs k line e l p = some_all (done_lines g xs k line l) (some_is (ap (λ (ys : List TargetId). parts_assigns s (targets_at g ys) e) (nothing_left xs k l)) p)
 
 -- the number of the parts after this one
 pub rest_as : {r : Read} {x y z : Design} {v w : Operand} {k : ℕ} (last : Bool) (s : Shapes) → shapes y ≡ s → v.id.place < length x.exprs → Grows x y → RestPut r y z v w k last → last ≡ false
@@ -189,3 +202,7 @@ pub rest_as : {r : Read} {x y z : Design} {v w : Operand} {k : ℕ} (last : Bool
 rest_as {r} {y = y} {v = v} {k = k} last s sy there g p e =
     let low = target_bits (shapes r.design) (design.target r.design k) in
     p.tree e ∙ ap (λ (u : Shapes). without_low u low (term y v.id.place)) sy ∙ ap (without_low s low) (term_kept v.id.place g there)
+
+-- an assignment to a target, by its node
+pub put_target : (s : Shapes) (line : ℕ) (e : Term) {x y : Design} {a b : List Own} {t u : tree.Target} → u ≡ t → Put x y a b (assigns s t e) (target_lines t line) → Put x y a b (assigns s u e) (target_lines u line)
+put_target s line e {x} {y} {a} {b} same p = subst (λ (v : tree.Target). Put x y a b (assigns s v e) (target_lines v line)) (sym same) p

@@ -20,8 +20,11 @@ use Rattle.lx_fhdl.specs.Instance.{the_expr}
 use Rattle.lx_fhdl.specs.Keeping.{Keeps}
 use Rattle.lx_fhdl.specs.declared.design.Design.{Design}
 use Rattle.lx_lowering.proofs.LowerTerms.{lower_shape}
+use Rattle.lx_lower.specs.Lines.{lines_at}
 use Rattle.lx_lower.specs.Operands.{HasShape}
+use Rattle.lx_lower.specs.Owned.{node_lines_of}
 use Rattle.lx_lower.specs.Sources.{Read, IsRead, IsLowered, place_at}
+use Rattle.lx_lower.proofs.Lining.{lines_at-is}
 use Rattle.lx_lower.proofs.Sound.{arenas, same_shapes, sound, term_keeps}
 
 -- a lowered tree has the shape that stands for the tree
@@ -66,3 +69,6 @@ signal_shape_is d x s e = made_shape d.signals x s e
 
 pub signal_bits_are : (d : Design) (x : ℕ) (s : Signal) → slice_get d.signals x ≡ Some s → s.shape.bits ≡ (shapes d x).bits
 signal_bits_are d x s e = ap (λ (a : Shape). a.bits) (signal_shape_is d x s e)
+
+pub stmt_lines : (d : Design) (k : ℕ) (x : Stmt) → Keeps d → slice_get d.stmts k ≡ Some x → (s : ℕ) → lines_at d s k ≡ node_lines_of d s x
+stmt_lines d k x keep e s = lines_at-is d s k x keep.arenas.stmts_lower e

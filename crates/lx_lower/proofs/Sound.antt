@@ -163,10 +163,10 @@ same_shapes d e h =
     ap shapes_in h
 
 pub grows_same : (d : Design) → Grows d d
-grows_same d = record { signals = refl; memories = refl; stays = stays_same d }
+grows_same d = record { signals = refl; memories = refl; stays = stays_same d; lines = λ x k l. refl }
 
 pub grows_then : {x y z : Design} → Grows x y → Grows y z → Grows x z
-grows_then {x} {y} {z} g h = record { signals = h.signals ∙ g.signals; memories = h.memories ∙ g.memories; stays = stays_then x y z g.stays h.stays }
+grows_then {x} {y} {z} g h = record { signals = h.signals ∙ g.signals; memories = h.memories ∙ g.memories; stays = stays_then x y z g.stays h.stays; lines = λ s k l. h.lines s k (omega (arith, l, g.stays.stmts)) ∙ g.lines s k l }
 
 -- an expression that stands already
 pub put_same : (d : Design) (k : ℕ) (t : Term) → k < length d.exprs → term d k ≡ t → TermPut d d k t

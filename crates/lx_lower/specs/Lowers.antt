@@ -1,12 +1,20 @@
 -- Lowering of a design: the same signals, memories, domains, ports and runs, and one list of plain statements for each
 -- signal.
-use Rattle.std.specs.Prelude.{◌≡◌}
-use Rattle.lx_fhdl.specs.Designs.{circuit_of}
+use Rattle.std.specs.Prelude.{◌≡◌, ℕ, ◌<◌, length}
+use Rattle.lx_fhdl.specs.Designs.{circuit_of, stmts_of}
 use Rattle.lx_fhdl.specs.Keeping.{Keeps}
 use Rattle.lx_fhdl.specs.Lowered.{IsLowered}
 use Rattle.lx_fhdl.specs.declared.design.Design.{Design}
 use Rattle.lx_lowering.specs.Lowering as lowering
 use Rattle.lx_lowering.specs.Lowering.{Lowers}
+use Rattle.lx_lower.specs.Lines.{lines}
+use Rattle.lx_lower.specs.Lists.{KeepsLines}
+
+-- Each list assigns a signal from the same lines in the same order; a combinatorial one that reads nothing assigns it once,
+-- from the first of them. How often a list assigns a signal is said by the circuit.
+pub record HasLines (d e : Design) : Type 0 where
+  pub comb : (x : ℕ) → x < length d.signals → KeepsLines (lines d x d.comb) (lines e x e.comb)
+  pub sync : (x k : ℕ) → x < length d.signals → k < length d.domains → lines e x (stmts_of k e.sync) ≡ lines d x (stmts_of k d.sync)
 
 -- A lowered design keeps what a design keeps, has the signals, memories, domains and ports of the design, and means
 -- exactly its lowered circuit: so it has every run of the design and no other, no signal has another driver, and its
@@ -21,3 +29,4 @@ pub record IsLoweringOf (d e : Design) : Type 0 where
   pub ios : e.ios ≡ d.ios
   pub circuit : circuit_of e ≡ lowering.lowered (circuit_of d)
   pub lowers : Lowers (circuit_of d) (circuit_of e)
+  pub lines : HasLines d e

@@ -8,11 +8,13 @@ use Rattle.lx_fhdl.specs.Designs as design
 use Rattle.lx_fhdl.specs.Designs.{block, term}
 use Rattle.lx_fhdl.specs.Drafts.{CanAddTarget}
 use Rattle.lx_fhdl.specs.Lowered.{is_plain_target}
-use Rattle.lx_fhdl.specs.Stmts.{node_target}
+use Rattle.lx_fhdl.specs.Stmts.{node_stmt, node_target}
 use Rattle.lx_fhdl.specs.declared.design.Design.{Design}
+use Rattle.lx_fhdl.specs.declared.stmts.Stmt.{Stmt}
 use Rattle.lx_fhdl.specs.declared.stmts.Target.{Target}
 use Rattle.lx_lowering.specs.Flat.{append, one}
 use Rattle.lx_lowering.specs.Split.{lone_if, split_block}
+use Rattle.lx_lower.specs.Lines.{lines, lines_at, node_lines, times}
 use Rattle.lx_lower.specs.Plain.{Grows}
 use Rattle.lx_lower.specs.declared.owned.Own.{Own}
 use Rattle.lx_lower.specs.declared.groups.Group.{Group}
@@ -34,30 +36,51 @@ AreOwned d os = IsTrue (all_owned (length d.signals) (length d.stmts) os)
 abbrev pub own : Design → List Own → ℕ → Block
 own d os x = block d (ids_of x os)
 
--- the list grows by what a block of flat statements assigns to each signal
-pub record Put (old new : Design) (before after : List Own) (b : Block) : Type 0 where
+-- the lines of their assignments to it
+abbrev pub own_lines : Design → List Own → ℕ → List ℕ
+own_lines d os x = lines d x (ids_of x os)
+
+-- the list grows by what a block of flat statements assigns to each signal, from these lines
+pub record Put (old new : Design) (before after : List Own) (b : Block) (ls : ℕ → List ℕ) : Type 0 where
   pub grows : Grows old new
   pub owned : AreOwned new after
   pub own : (x : ℕ) → x < length new.signals → own new after x ≡ append (own old before x) (split_block x b)
+  pub lines : (x : ℕ) → x < length new.signals → own_lines new after x ≡ own_lines old before x ++ ls x
 
 -- it grows by the first statements of a block, so that the rest is still to be put
-pub record PutSome (old new : Design) (before after : List Own) (whole rest : Block) : Type 0 where
+pub record PutSome (old new : Design) (before after : List Own) (whole rest : Block) (ls ms : ℕ → List ℕ) : Type 0 where
   pub grows : Grows old new
   pub owned : AreOwned new after
   pub own : (x : ℕ) → x < length new.signals → append (own new after x) (split_block x rest) ≡ append (own old before x) (split_block x whole)
+  pub lines : (x : ℕ) → x < length new.signals → own_lines new after x ++ ms x ≡ own_lines old before x ++ ls x
 
 -- the list grows by a statement for the signal x
-pub record PutOne (old new : Design) (before after : List Own) (x : ℕ) (t : tree.Stmt) : Type 0 where
+pub record PutOne (old new : Design) (before after : List Own) (x : ℕ) (t : tree.Stmt) (ls : List ℕ) : Type 0 where
   pub grows : Grows old new
   pub owned : AreOwned new after
   pub here : own new after x ≡ append (own old before x) (one t)
   pub others : (y : ℕ) → nat_eq x y ≡ false → own new after y ≡ own old before y
+  pub lines : own_lines new after x ≡ own_lines old before x ++ ls
+  pub other_lines : (y : ℕ) → nat_eq x y ≡ false → own_lines new after y ≡ own_lines old before y
 
 -- the list grows by a condition for each signal that has statements where it holds or where it fails
 pub record PutUnder (old new : Design) (before after : List Own) (c : Term) (then_ else_ : List Own) : Type 0 where
   pub grows : Grows old new
   pub owned : AreOwned new after
   pub own : (x : ℕ) → x < length new.signals → own new after x ≡ append (own old before x) (lone_if c (own old then_ x) (own old else_ x))
+  pub lines : (x : ℕ) → x < length new.signals → own_lines new after x ≡ own_lines old before x ++ (own_lines old then_ x ++ own_lines old else_ x)
+
+-- ---- nodes of a draft
+
+abbrev pub tree_of : Design → Stmt → tree.Stmt
+tree_of d node = node_stmt (term d) (design.target d) (design.stmt d) node
+
+abbrev pub target_of : Design → Target → tree.Target
+target_of d node = node_target (term d) (design.target d) node
+
+-- the lines for the signal x
+abbrev pub node_lines_of : Design → ℕ → Stmt → List ℕ
+node_lines_of d x node = node_lines (λ t. times x (design.target d t)) (lines_at d x) node
 
 -- a target that is the signal x, or some of its bits
 pub record CanAssign (d : Design) (x : ℕ) (t : Target) : Type 0 where
@@ -139,3 +162,5 @@ pub record PutGroup (old new : Design) (before after : List Own) (c : Term) (g :
   pub owned : AreOwned new after
   pub here : own new after g.signal.0 ≡ append (own old before g.signal.0) (lone_if c (block old g.then_) (block old g.else_))
   pub others : (y : ℕ) → nat_eq g.signal.0 y ≡ false → own new after y ≡ own old before y
+  pub lines : own_lines new after g.signal.0 ≡ own_lines old before g.signal.0 ++ (lines old g.signal.0 g.then_ ++ lines old g.signal.0 g.else_)
+  pub other_lines : (y : ℕ) → nat_eq g.signal.0 y ≡ false → own_lines new after y ≡ own_lines old before y

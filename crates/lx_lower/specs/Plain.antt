@@ -3,11 +3,14 @@ use Rattle.std.specs.Prelude.{◌≡◌, ℕ, List, Some, true, ◌<◌, length,
 use Rattle.lx_num.specs.Ints.{unsigned}
 use Rattle.lx_circuit.specs.Shapes.{shape_of}
 use Rattle.lx_circuit.specs.Terms.{Term}
-use Rattle.lx_fhdl.specs.Designs.{shapes, term}
-use Rattle.lx_fhdl.specs.Drafts.{CanAddExpr, Stays}
+use Rattle.lx_fhdl.specs.Designs.{shapes, target, term}
+use Rattle.lx_fhdl.specs.Drafts.{CanAddExpr, ExprPut, Stays, StmtPut, TargetPut}
 use Rattle.lx_fhdl.specs.Lowered.{is_no_pick}
 use Rattle.lx_fhdl.specs.declared.design.Design.{Design}
 use Rattle.lx_fhdl.specs.declared.exprs.Expr.{Expr}
+use Rattle.lx_fhdl.specs.declared.stmts.Stmt.{Stmt}
+use Rattle.lx_fhdl.specs.declared.stmts.Target.{Target}
+use Rattle.lx_lower.specs.Lines.{lines_at, node_lines, times}
 
 -- no expression picks an item of a list
 abbrev pub ArePlain : Design → Type 0
@@ -23,11 +26,26 @@ pub record CanAdd (d : Design) (x : Expr) : Type 0 where
   pub sound : CanAddExpr d x
   pub plain : is_no_pick x ≡ true
 
--- the draft grows by nodes: its signals and memories are the same, and its trees stay
+-- the draft grows by nodes: its signals and memories are the same, and its trees and lines stay
 pub record Grows (old new : Design) : Type 0 where
   pub signals : new.signals ≡ old.signals
   pub memories : new.memories ≡ old.memories
   pub stays : Stays old new
+  pub lines : (x k : ℕ) → k < length old.stmts → lines_at new x k ≡ lines_at old x k
+
+-- a node more
+pub record ExprAdded (old new : Design) (x : Expr) (id : ℕ) : Type 0 where
+  pub grows : Grows old new
+  pub put : ExprPut old new x id
+
+pub record TargetAdded (old new : Design) (x : Target) (id : ℕ) : Type 0 where
+  pub grows : Grows old new
+  pub put : TargetPut old new x id
+
+pub record StmtAdded (old new : Design) (x : Stmt) (id : ℕ) : Type 0 where
+  pub grows : Grows old new
+  pub put : StmtPut old new x id
+  pub lines : (s : ℕ) → lines_at new s id ≡ node_lines (λ t. times s (target old t)) (lines_at old s) x
 
 -- a tree more hangs there
 pub record TermPut (old new : Design) (id : ℕ) (t : Term) : Type 0 where

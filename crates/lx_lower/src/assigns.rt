@@ -1,14 +1,10 @@
 //! Assignments to the parts of targets.
 
 ghost use Rattle.std.specs.Prelude.{◌≡◌, ◌≢◌, ◌<◌, length, IfOk, OnOk};
-ghost use Rattle.lx_fhdl.specs.Designs as designs;
 ghost use Rattle.lx_fhdl.specs.Designs.{shapes, term};
-ghost use Rattle.lx_fhdl.specs.Stmts.{targets_at};
-ghost use Rattle.lx_lowering.specs.Flat.{assigns, items_assigns, parts_assigns};
-ghost use Rattle.lx_lowering.specs.Terms.{lower_term};
 ghost use Rattle.lx_lower.specs.Operands.{HasShape};
-ghost use Rattle.lx_lower.specs.Owned.{Put};
 ghost use Rattle.lx_lower.specs.Plain.{TermPut};
+ghost use Rattle.lx_lower.specs.Puts.{PutItems, PutParts, PutTarget, lowered_at};
 ghost use Rattle.lx_lower.specs.Ready.{IsReady, LowerTargets, RestPut, choice};
 
 use crate::bits::target_bits;
@@ -76,7 +72,7 @@ pub fn put_assigns(
     requires ready { IsReady source.now draft.old out.old }
     requires target { target.place < length source.now.design.targets }
     requires value { HasShape draft.old value }
-    ensures { OnOk result (Put draft.old draft.new out.old out.new (assigns (shapes source.now.design) (designs.target source.now.design target.place) (term draft.old value.id.place))) }
+    ensures { OnOk result (PutTarget source.now draft.old draft.new out.old out.new target.place value.id.place line) }
 {
     match source.target(target) {
         Target::Whole(x) => put_assignment(draft, *x, Target::Whole(*x), value.id, line, out),
@@ -124,7 +120,7 @@ fn put_parts(
     requires ready { IsReady source.now draft.old out.old }
     requires parts { LowerTargets source.now.design bound parts.now }
     requires value { HasShape draft.old value }
-    ensures { OnOk result (Put draft.old draft.new out.old out.new (parts_assigns (shapes source.now.design) (targets_at (designs.target source.now.design) parts.now) (term draft.old value.id.place))) }
+    ensures { OnOk result (PutParts source.now draft.old draft.new out.old out.new parts.now value.id.place line) }
 {
     let mut value = value;
     for (number, part) in parts.iter().enumerate() {
@@ -152,7 +148,7 @@ fn put_pick(
     requires items { LowerTargets source.now.design bound items.now }
     requires index { index.place < length source.now.places }
     requires value { HasShape draft.old value }
-    ensures { OnOk result (Put draft.old draft.new out.old out.new (items_assigns (shapes source.now.design) 0 (targets_at (designs.target source.now.design) items.now) (lower_term (shapes source.now.design) (designs.term source.now.design index.place)) (term draft.old value.id.place))) }
+    ensures { OnOk result (PutItems source.now draft.old draft.new out.old out.new items.now (lowered_at source.now.design index.place) value.id.place line) }
 {
     if let [only] = items {
         return put_assigns(alloc, source, draft, *only, value, line, out);
@@ -179,7 +175,7 @@ fn put_items(
     requires several { length items.now ≢ 1 }
     requires index { HasShape draft.old index }
     requires value { HasShape draft.old value }
-    ensures { OnOk result (Put draft.old draft.new out.old out.new (items_assigns (shapes source.now.design) 0 (targets_at (designs.target source.now.design) items.now) (term draft.old index.id.place) (term draft.old value.id.place))) }
+    ensures { OnOk result (PutItems source.now draft.old draft.new out.old out.new items.now (term draft.old index.id.place) value.id.place line) }
 {
     for (number, item) in items.iter().enumerate() {
         let mut own = List::new(alloc);

@@ -1,18 +1,14 @@
 //! Flat statements: each assigns a signal or some of its bits, and each branch stands under its own condition.
 
-ghost use Rattle.std.specs.Prelude.{◌≡◌, ◌∷◌, ◌<◌, ◌≤◌, [], None, length, IfOk, OnOk, IsTrue};
-ghost use Rattle.lx_circuit.specs.Statements as tree;
+ghost use Rattle.std.specs.Prelude.{◌∷◌, ◌<◌, ◌≤◌, [], length, IfOk, OnOk, IsTrue};
 ghost use Rattle.lx_circuit.specs.Terms.{Binary};
 ghost use Rattle.lx_fhdl.specs.Below.{all_stmts_below};
-ghost use Rattle.lx_fhdl.specs.Designs as designs;
 ghost use Rattle.lx_fhdl.specs.Designs.{shapes, term};
-ghost use Rattle.lx_fhdl.specs.Stmts.{arms_at, branches_at};
-ghost use Rattle.lx_lowering.specs.Flat.{fails, first_branch, flat, flat_arms, flat_block, flat_chain, flat_if, holds, otherwise, some_when};
-ghost use Rattle.lx_lowering.specs.Terms.{lower_term};
-ghost use Rattle.lx_lower.specs.Keys.{AreFresh, arms_block, none_after};
+ghost use Rattle.lx_lowering.specs.Flat.{fails, holds};
+ghost use Rattle.lx_lower.specs.Keys.{AreFresh};
 ghost use Rattle.lx_lower.specs.Operands.{HasShape};
-ghost use Rattle.lx_lower.specs.Owned.{Put};
 ghost use Rattle.lx_lower.specs.Plain.{IsBit, TermPut};
+ghost use Rattle.lx_lower.specs.Puts.{PutArms, PutCase, PutChain, PutIf, PutLone, PutOtherwise, PutStmt, PutStmts, PutWhen};
 ghost use Rattle.lx_lower.specs.Ready.{IsReady, LowerArms, LowerBranches, LowerStmts};
 
 use crate::assigns::put_assigns;
@@ -59,7 +55,7 @@ pub fn flatten(
 ) -> Result<List<Own>, NoMemory>
     requires ready { IsReady source.now draft.old [] }
     requires there { IsTrue (all_stmts_below (length source.now.design.stmts) ids.now) }
-    ensures { IfOk result (λ list. Put draft.old draft.new [] list (flat_block (shapes source.now.design) (designs.block source.now.design ids.now))) }
+    ensures { IfOk result (λ list. PutStmts source.now draft.old draft.new [] list ids.now) }
 {
     let mut out = List::new(alloc);
     let bound = source.stmts();
@@ -78,7 +74,7 @@ fn put_flat(
 ) -> Result<(), NoMemory>
     requires ready { IsReady source.now draft.old out.old }
     requires place { id.place < length source.now.design.stmts }
-    ensures { OnOk result (Put draft.old draft.new out.old out.new (flat (shapes source.now.design) (designs.stmt source.now.design id.place))) }
+    ensures { OnOk result (PutStmt source.now draft.old draft.new out.old out.new id.place) }
 {
     match source.stmt(id) {
         Stmt::Assign {
@@ -123,7 +119,7 @@ fn put_flat_block(
 ) -> Result<(), NoMemory>
     requires ready { IsReady source.now draft.old out.old }
     requires stmts { LowerStmts source.now.design bound ids.now }
-    ensures { OnOk result (Put draft.old draft.new out.old out.new (flat_block (shapes source.now.design) (designs.block source.now.design ids.now))) }
+    ensures { OnOk result (PutStmts source.now draft.old draft.new out.old out.new ids.now) }
 {
     for id in ids {
         put_flat(alloc, source, draft, *id, out)?;
@@ -146,7 +142,7 @@ fn put_block_when(
     requires ready { IsReady source.now draft.old out.old }
     requires cond { cond.place < length draft.old.exprs }
     requires stmts { LowerStmts source.now.design bound ids.now }
-    ensures { OnOk result (Put draft.old draft.new out.old out.new (some_when (term draft.old cond.place) (flat_block (shapes source.now.design) (designs.block source.now.design ids.now)))) }
+    ensures { OnOk result (PutWhen source.now draft.old draft.new out.old out.new cond.place ids.now) }
 {
     let mut own = List::new(alloc);
     put_flat_block(alloc, source, draft, ids, bound, &mut own)?;
@@ -168,7 +164,7 @@ fn put_if(
     requires ready { IsReady source.now draft.old out.old }
     requires branches { LowerBranches source.now.design bound branches.now }
     requires rest { LowerStmts source.now.design bound rest.now }
-    ensures { OnOk result (Put draft.old draft.new out.old out.new (flat_if (shapes source.now.design) (branches_at (designs.term source.now.design) (designs.stmt source.now.design) branches.now) (flat_block (shapes source.now.design) (designs.block source.now.design rest.now)))) }
+    ensures { OnOk result (PutIf source.now draft.old draft.new out.old out.new branches.now rest.now) }
 {
     if branches.is_empty() {
         return put_flat_block(alloc, source, draft, rest, bound, out);
@@ -195,7 +191,7 @@ fn put_several(
     requires several { 2 ≤ length branches.now }
     requires branches { LowerBranches source.now.design bound branches.now }
     requires rest { LowerStmts source.now.design bound rest.now }
-    ensures { OnOk result (Put draft.old draft.new out.old out.new (flat_if (shapes source.now.design) (branches_at (designs.term source.now.design) (designs.stmt source.now.design) branches.now) (flat_block (shapes source.now.design) (designs.block source.now.design rest.now)))) }
+    ensures { OnOk result (PutIf source.now draft.old draft.new out.old out.new branches.now rest.now) }
 {
     let first = &branches[0];
     let cond = source.lowered(draft, first.cond);
@@ -221,7 +217,7 @@ fn put_lone(
     requires ready { IsReady source.now draft.old out.old }
     requires branch { LowerBranches source.now.design bound (branch.now ∷ []) }
     requires rest { LowerStmts source.now.design bound rest.now }
-    ensures { OnOk result (Put draft.old draft.new out.old out.new (first_branch (lower_term (shapes source.now.design) (designs.term source.now.design branch.now.cond.place)) (flat_block (shapes source.now.design) (designs.block source.now.design branch.now.body)) tree.NoBranch tree.Done (flat_block (shapes source.now.design) (designs.block source.now.design rest.now)))) }
+    ensures { OnOk result (PutLone source.now draft.old draft.new out.old out.new branch.now rest.now) }
 {
     let mut then_ = List::new(alloc);
     let mut else_ = List::new(alloc);
@@ -263,7 +259,7 @@ fn put_chain(
     requires none { IsBit draft.old none.place }
     requires branches { LowerBranches source.now.design bound branches.now }
     requires rest { LowerStmts source.now.design bound rest.now }
-    ensures { OnOk result (Put draft.old draft.new out.old out.new (flat_chain (shapes source.now.design) (term draft.old none.place) (branches_at (designs.term source.now.design) (designs.stmt source.now.design) branches.now) (flat_block (shapes source.now.design) (designs.block source.now.design rest.now)))) }
+    ensures { OnOk result (PutChain source.now draft.old draft.new out.old out.new none.place branches.now rest.now) }
 {
     let mut none = none;
     for branch in branches {
@@ -293,7 +289,7 @@ fn put_case(
     requires on { on.place < length source.now.places }
     requires arms { LowerArms source.now.design bound arms.now }
     requires rest { LowerStmts source.now.design bound rest.now }
-    ensures { OnOk result (Put draft.old draft.new out.old out.new (flat_arms (shapes source.now.design) (lower_term (shapes source.now.design) (designs.term source.now.design on.place)) [] None (arms_at (designs.stmt source.now.design) arms.now) (flat_block (shapes source.now.design) (designs.block source.now.design rest.now)))) }
+    ensures { OnOk result (PutCase source.now draft.old draft.new out.old out.new on.place arms.now rest.now) }
 {
     let on = source.lowered(draft, on);
     draft.keeps();
@@ -322,7 +318,7 @@ fn put_arms(
     requires on { HasShape draft.old on }
     requires arms { LowerArms source.now.design bound arms.now }
     requires fresh { AreFresh on.shape arms.now (length arms.now) fresh.now }
-    ensures { OnOk result (Put draft.old draft.new out.old out.new (arms_block (shapes source.now.design) (designs.stmt source.now.design) (term draft.old on.id.place) [] arms.now)) }
+    ensures { OnOk result (PutArms source.now draft.old draft.new out.old out.new on.id.place arms.now) }
 {
     for (number, arm) in arms.iter().enumerate() {
         let here = push_key(draft, on, fresh[number], arm.key)?;
@@ -350,7 +346,7 @@ fn put_otherwise(
     requires on { HasShape draft.old on }
     requires fresh { AreFresh on.shape arms.now (length arms.now) fresh.now }
     requires rest { LowerStmts source.now.design bound rest.now }
-    ensures { OnOk result (Put draft.old draft.new out.old out.new (otherwise (none_after (shapes source.now.design) (term draft.old on.id.place) [] None arms.now) (flat_block (shapes source.now.design) (designs.block source.now.design rest.now)))) }
+    ensures { OnOk result (PutOtherwise source.now draft.old draft.new out.old out.new on.id.place arms.now rest.now) }
 {
     if rest.is_empty() {
         return Ok(());

@@ -1,6 +1,6 @@
 //! Statements of one signal that read nothing: one assignment of what they give.
 
-ghost use Rattle.std.specs.Prelude.{◌≡◌, ◌+◌, ◌<◌, ◌≤◌, true, length, IsTrue};
+ghost use Rattle.std.specs.Prelude.{◌≡◌, ◌+◌, ◌<◌, ◌≤◌, true, length, slice_get, IsTrue, Some};
 ghost use Rattle.lx_circuit.specs.Statements.{after_pieces, laid_over, pieces, taken, taken_block};
 ghost use Rattle.lx_fhdl.specs.Below.{all_stmts_below};
 ghost use Rattle.lx_fhdl.specs.Designs as designs;
@@ -8,12 +8,20 @@ ghost use Rattle.lx_fhdl.specs.Designs.{block, shapes};
 ghost use Rattle.lx_fhdl.specs.Lowered.{are_for, is_for, is_plain_target};
 ghost use Rattle.lx_fhdl.specs.Stmts.{branches_at};
 ghost use Rattle.lx_lowering.specs.Constants.{block_reads_none, branches_read_none, reads_none, zeros};
-ghost use Rattle.lx_lower.specs.Fixed.{IsForFree, AreForFree, chosen, folded_in};
+ghost use Rattle.lx_lower.specs.Fixed.{IsForFree, AreForFree, IsFirst, chosen, folded_in};
+ghost use Rattle.lx_lower.specs.Lines.{lines, lines_at};
 ghost use Rattle.lx_lower.specs.Ready.{LowerBranches, LowerStmts};
 
 use crate::known::Known;
 use lx_fhdl::{Branch, SigId, Stmt, StmtId, Target, TargetId};
 use lx_num::{with_field, wrap};
+
+/// A number in the place of statements, from a line.
+#[derive(Clone, Copy)]
+pub struct Folded {
+    pub value: i128,
+    pub line: u32,
+}
 
 /// Whether a statement names neither a signal nor a word of a memory in its values and conditions.
 #[cycle(reads)]
@@ -126,12 +134,45 @@ fn after_block(known: &Known, x: SigId, pattern: u64, ids: &[StmtId], bound: usi
     pattern
 }
 
-/// The number that statements for a signal give it, where they read nothing.
-pub fn folded_number(known: &Known, x: SigId, ids: &[StmtId]) -> Option<i128>
+/// The line of the first assignment in a statement for a signal.
+#[cycle(first)]
+fn first_line(known: &Known, x: SigId, id: StmtId) -> u32
+    requires place { id.place < length known.now.stmts }
+    requires alone { is_for x.0 (designs.stmt known.now id.place) ≡ true }
+    ensures { slice_get (lines_at known.now x.0 id.place) 0 ≡ Some result }
+{
+    match known.stmt(id) {
+        Stmt::Assign { line, .. } | Stmt::Case { line, .. } => *line,
+        Stmt::If { branches, rest, .. } => {
+            let bound = id.place;
+            if let [branch, ..] = branches.as_slice()
+                && !branch.body.is_empty()
+            {
+                return first_line_in(known, x, branch.body.as_slice(), bound);
+            }
+            first_line_in(known, x, rest.as_slice(), bound)
+        }
+    }
+}
+
+/// The line of the first assignment in statements for a signal, each lower than `bound`.
+#[cycle(first)]
+fn first_line_in(known: &Known, x: SigId, ids: &[StmtId], bound: usize) -> u32
+    requires some { 0 < length ids.now }
+    requires stmts { LowerStmts known.now bound ids.now }
+    requires alone { are_for x.0 (block known.now ids.now) ≡ true }
+    ensures { slice_get (lines known.now x.0 ids.now) 0 ≡ Some result }
+{
+    first_line(known, x, ids[0])
+}
+
+/// What statements for a signal give it, and the first line of them, where they read nothing.
+pub fn fold_of(known: &Known, x: SigId, ids: &[StmtId]) -> Option<Folded>
     requires signal { x.0 < length known.now.signals }
     requires there { IsTrue (all_stmts_below (length known.now.stmts) ids.now) }
     requires alone { are_for x.0 (block known.now ids.now) ≡ true }
-    ensures { chosen known.now x.0 result (block known.now ids.now) ≡ folded_in known.now x.0 (block known.now ids.now) }
+    ensures number { chosen known.now x.0 result (block known.now ids.now) ≡ folded_in known.now x.0 (block known.now ids.now) }
+    ensures line { IsFirst result (lines known.now x.0 ids.now) }
 {
     let bound = known.stmts();
     if ids.is_empty() || !block_reads_none(known, ids, bound) {
@@ -140,5 +181,8 @@ pub fn folded_number(known: &Known, x: SigId, ids: &[StmtId]) -> Option<i128>
     let signal = known.signal(x);
     let pattern = lay(0, 0, signal.shape.bits, signal.reset);
     let after = after_block(known, x, pattern, ids, bound);
-    Some(wrap(after as i128, signal.shape))
+    Some(Folded {
+        value: wrap(after as i128, signal.shape),
+        line: first_line_in(known, x, ids, bound),
+    })
 }

@@ -112,7 +112,7 @@ pub fn grouped(
 }
 
 /// Copies of the places of statements.
-fn copied_ids(alloc: Global, ids: &[StmtId]) -> Result<List<StmtId>, NoMemory>
+pub fn copied_ids(alloc: Global, ids: &[StmtId]) -> Result<List<StmtId>, NoMemory>
     ensures { IfOk result (λ list. list ≡ ids.now) }
 {
     let mut list = List::new(alloc);

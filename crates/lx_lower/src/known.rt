@@ -1,6 +1,6 @@
 //! A draft whose expressions are known: which of them are free, and what value each free one has.
 
-ghost use Rattle.std.specs.Prelude.{◌≡◌, ◌<◌, true, length, IfOk, IsTrue};
+ghost use Rattle.std.specs.Prelude.{◌≡◌, ℕ, ◌<◌, true, length, IfOk, IsTrue};
 ghost use Rattle.lx_circuit.specs.Values.{value_of};
 ghost use Rattle.lx_fhdl.specs.Below.{stmt_below};
 ghost use Rattle.lx_fhdl.specs.Designs.{shapes, stmt, target, term};
@@ -8,6 +8,8 @@ ghost use Rattle.lx_fhdl.specs.Keeping.{StmtStands, TargetStands};
 ghost use Rattle.lx_fhdl.specs.Stmts.{node_stmt, node_target};
 ghost use Rattle.lx_lowering.specs.Constants.{names_none, zeros};
 ghost use Rattle.lx_lower.specs.Fixed.{IsFixed, IsNarrow, reset_of};
+ghost use Rattle.lx_lower.specs.Lines.{lines_at};
+ghost use Rattle.lx_lower.specs.Owned.{node_lines_of};
 
 use crate::fixed::{Fixed, fixed_exprs};
 use lx_fhdl::{Draft, ExprId, SigId, Signal, Stmt, StmtId, Target, TargetId};
@@ -86,9 +88,10 @@ impl<'a> Known<'a> {
         ensures below { IsTrue (stmt_below result.now id.place) }
         ensures stands { StmtStands (length self.now.exprs) (length self.now.targets) result.now }
         ensures tree { stmt self.now id.place ≡ node_stmt (term self.now) (target self.now) (stmt self.now) result.now }
+        ensures lines { (x : ℕ) → lines_at self.now x id.place ≡ node_lines_of self.now x result.now }
     {
         let draft = self.draft;
-        draft.stmt(id)
+        draft.design().stmts.get(id)
     }
 
     /// A signal.

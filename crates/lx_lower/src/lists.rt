@@ -1,14 +1,16 @@
 //! One list of statements for each signal.
 
-ghost use Rattle.std.specs.Prelude.{◌≡◌, ◌++◌, ◌∷◌, ◌<◌, [], length, replicate, slice_index_or, slice_set, IfOk, OnOk, IsTrue};
+ghost use Rattle.std.specs.Prelude.{◌≡◌, ◌++◌, ◌∷◌, ◌<◌, [], length, IfOk, OnOk, IsTrue};
 ghost use Rattle.std.specs.List.{flat_map};
 ghost use Rattle.lx_fhdl.specs.Designs.{block};
-ghost use Rattle.lx_lower.specs.Fixed.{chosen, constant_in};
-ghost use Rattle.lx_lower.specs.Lists.{AreBySignal, AreForSignals, AreNumbers, AreThere, ListPut, all_lists, folded_lists, list_at};
+ghost use Rattle.lx_lower.specs.Fixed.{chosen, chosen_lines, constant_in};
+ghost use Rattle.lx_lower.specs.Lines.{lines};
+ghost use Rattle.lx_lower.specs.Lists.{AreBySignal, AreFolds, AreForSignals, IsFor, ListsPut, OnePut, fold_lines, folded_lists};
 ghost use Rattle.lx_lower.specs.Owned.{all_signals};
 
 use crate::conds::push_constant;
-use crate::fold::folded_number;
+use crate::fold::{Folded, fold_of};
+use crate::groups::copied_ids;
 use crate::known::Known;
 use crate::owned::Own;
 use crate::plain::PlainDraft;
@@ -60,48 +62,35 @@ pub fn joined(alloc: Global, lists: &[List<StmtId>]) -> Result<List<StmtId>, NoM
     Ok(list)
 }
 
-/// The number that each list gives its signal, where it reads nothing.
-pub fn folded_numbers(
+/// What each list gives its signal, where it reads nothing.
+pub fn folds(
     alloc: Global,
     draft: &Draft,
     lists: &[List<StmtId>],
-) -> Result<List<Option<i128>>, NoMemory>
+) -> Result<List<Option<Folded>>, NoMemory>
     requires { AreForSignals draft.now lists.now }
-    ensures { IfOk result (λ numbers. AreNumbers draft.now lists.now (length draft.now.signals) numbers) }
+    ensures { IfOk result (λ folds. AreFolds draft.now lists.now (length draft.now.signals) folds) }
 {
     let known = Known::new(alloc, draft)?;
-    let mut numbers = List::new(alloc);
+    let mut folds = List::new(alloc);
     for x in 0..lists.len() {
         let list = lists[x].as_slice();
-        let number = folded_number(&known, SigId(x), list);
-        numbers.push(number)?;
+        let fold = fold_of(&known, SigId(x), list);
+        folds.push(fold)?;
     }
-    Ok(numbers)
+    Ok(folds)
 }
 
-/// The line of the first of some statements.
-fn first_line(draft: &Draft, ids: &[StmtId]) -> u32
-    requires { AreThere draft.now ids.now }
-{
-    let [first, ..] = ids else {
-        return 0;
-    };
-    match draft.stmt(*first) {
-        Stmt::Assign { line, .. } | Stmt::If { line, .. } | Stmt::Case { line, .. } => *line,
-    }
-}
-
-/// Adds the assignment of a constant to a signal, at the end of a list.
-fn put_constant(
+/// The assignment of a number to a signal, from a line.
+fn constant_list(
+    alloc: Global,
     draft: &mut PlainDraft,
     x: SigId,
     number: i128,
     line: u32,
-    out: &mut List<StmtId>,
-) -> Result<(), NoMemory>
-    requires out { AreThere draft.old out.old }
-    requires signal { x.0 < length draft.old.signals }
-    ensures { OnOk result (ListPut draft.old draft.new out.old out.new (constant_in draft.old x.0 number)) }
+) -> Result<List<StmtId>, NoMemory>
+    requires { x.0 < length draft.old.signals }
+    ensures { IfOk result (λ list. OnePut draft.old draft.new x.0 list (constant_in draft.old x.0 number) (line ∷ [])) }
 {
     let shape = draft.signal_shape(x);
     let value = push_constant(draft, number, shape)?;
@@ -112,47 +101,43 @@ fn put_constant(
         line,
     };
     let stmt = draft.push_stmt(node)?;
-    out.push(stmt)?;
-    Ok(())
+    List::of_one(alloc, stmt)
 }
 
-/// Adds statements of a signal at the end of a list, or the assignment of a constant in their place.
-fn put_chosen(
+/// Statements of a signal, or the assignment of a constant in their place.
+fn fold_list(
+    alloc: Global,
     draft: &mut PlainDraft,
     x: SigId,
-    number: Option<i128>,
+    fold: Option<Folded>,
     ids: &[StmtId],
-    out: &mut List<StmtId>,
-) -> Result<(), NoMemory>
-    requires out { AreThere draft.old out.old }
+) -> Result<List<StmtId>, NoMemory>
     requires signal { x.0 < length draft.old.signals }
-    requires ids { AreThere draft.old ids.now }
-    ensures { OnOk result (ListPut draft.old draft.new out.old out.new (chosen draft.old x.0 number (block draft.old ids.now))) }
+    requires ids { IsFor draft.old x.0 ids.now }
+    ensures { IfOk result (λ list. OnePut draft.old draft.new x.0 list (chosen draft.old x.0 fold (block draft.old ids.now)) (chosen_lines fold (lines draft.old x.0 ids.now))) }
 {
-    match number {
-        None => add_all(out, ids),
-        Some(number) => {
-            let line = first_line(draft.draft(), ids);
-            put_constant(draft, x, number, line, out)
-        }
+    match fold {
+        None => copied_ids(alloc, ids),
+        Some(fold) => constant_list(alloc, draft, x, fold.value, fold.line),
     }
 }
 
-/// The lists of all signals, one after the other, where those that read nothing are folded.
-pub fn put_folded(
+/// The lists of all signals, where those that read nothing are folded.
+pub fn fold_lists(
     alloc: Global,
     draft: &mut PlainDraft,
     lists: &[List<StmtId>],
-    numbers: &[Option<i128>],
-) -> Result<List<StmtId>, NoMemory>
+    folds: &[Option<Folded>],
+) -> Result<Vec<List<StmtId>>, NoMemory>
     requires lists { AreForSignals draft.old lists.now }
-    requires numbers { AreNumbers draft.old lists.now (length draft.old.signals) numbers.now }
-    ensures { IfOk result (λ list. ListPut draft.old draft.new [] list (all_lists draft.old.signals (folded_lists draft.old lists.now))) }
+    requires folds { AreFolds draft.old lists.now (length draft.old.signals) folds.now }
+    ensures { IfOk result (λ more. ListsPut draft.old draft.new (length draft.old.signals) more.items (folded_lists draft.old lists.now) (fold_lines draft.old lists.now folds.now)) }
 {
-    let mut out = List::new(alloc);
+    let mut out = Vec::new(alloc);
     for x in 0..lists.len() {
         let list = lists[x].as_slice();
-        put_chosen(draft, SigId(x), numbers[x], list, &mut out)?;
+        let own = fold_list(alloc, draft, SigId(x), folds[x], list)?;
+        out.push(own)?;
     }
     Ok(out)
 }

@@ -2,12 +2,11 @@
 
 ghost use Rattle.std.specs.Prelude.{◌≡◌, ◌<◌, length, OnOk};
 ghost use Rattle.lx_circuit.specs.Statements as tree;
-ghost use Rattle.lx_fhdl.specs.Designs as designs;
 ghost use Rattle.lx_fhdl.specs.Designs.{term};
 ghost use Rattle.lx_fhdl.specs.Drafts.{CanAddStmt};
-ghost use Rattle.lx_fhdl.specs.Stmts.{node_stmt, node_target};
 ghost use Rattle.lx_lowering.specs.Flat.{one};
-ghost use Rattle.lx_lower.specs.Owned.{AreOwned, CanAssign, Put, PutOne};
+ghost use Rattle.lx_lower.specs.Lines.{target_lines};
+ghost use Rattle.lx_lower.specs.Owned.{AreOwned, CanAssign, Put, PutOne, node_lines_of, target_of, tree_of};
 
 use crate::plain::PlainDraft;
 use lx_fhdl::{ExprId, SigId, Stmt, StmtId, Target};
@@ -30,7 +29,7 @@ pub fn put_own(
     requires out { AreOwned draft.old out.old }
     requires signal { signal.0 < length draft.old.signals }
     requires node { CanAddStmt draft.old node }
-    ensures { OnOk result (PutOne draft.old draft.new out.old out.new signal.0 (node_stmt (term draft.old) (designs.target draft.old) (designs.stmt draft.old) node)) }
+    ensures { OnOk result (PutOne draft.old draft.new out.old out.new signal.0 (tree_of draft.old node) (node_lines_of draft.old signal.0 node)) }
 {
     let stmt = draft.push_stmt(node)?;
     out.push(Own { signal, stmt })?;
@@ -49,7 +48,7 @@ pub fn put_assignment(
     requires out { AreOwned draft.old out.old }
     requires target { CanAssign draft.old signal.0 target }
     requires value { value.place < length draft.old.exprs }
-    ensures { OnOk result (Put draft.old draft.new out.old out.new (one (tree.Assign (node_target (term draft.old) (designs.target draft.old) target) (term draft.old value.place)))) }
+    ensures { OnOk result (Put draft.old draft.new out.old out.new (one (tree.Assign (target_of draft.old target) (term draft.old value.place))) (target_lines (target_of draft.old target) line)) }
 {
     let target = draft.push_target(target)?;
     let node = Stmt::Assign {

@@ -2,11 +2,12 @@
 
 ghost use Rattle.std.specs.Prelude.{◌≡◌, [], length, IfOk};
 ghost use Rattle.lx_fhdl.specs.Designs.{stmts_of};
-ghost use Rattle.lx_lower.specs.Lists.{AreThere, ListPut, ListsPut, PartsPut, folded_of, lists_of, split_of};
+ghost use Rattle.lx_lower.specs.Lists.{AreThere, CombPut, ListPut, ListsPut, PartsPut, folded_of, lists_of, split_of};
+ghost use Rattle.lx_lower.specs.Puts.{lines_for};
 ghost use Rattle.lx_lower.specs.Ready.{IsReady};
 
 use crate::flat::flatten;
-use crate::lists::{add_all, by_signal, folded_numbers, joined, put_folded};
+use crate::lists::{add_all, by_signal, fold_lists, folds, joined};
 use crate::plain::PlainDraft;
 use crate::source::Source;
 use lx_fhdl::{StmtId, SyncPart};
@@ -22,7 +23,7 @@ fn split(
 ) -> Result<Vec<List<StmtId>>, NoMemory>
     requires ready { IsReady source.now draft.old [] }
     requires there { AreThere source.now.design ids.now }
-    ensures { IfOk result (λ lists. ListsPut draft.old draft.new lists.items (split_of source.now.design ids.now)) }
+    ensures { IfOk result (λ lists. ListsPut draft.old draft.new (length draft.new.signals) lists.items (split_of source.now.design ids.now) (lines_for source.now.design ids.now)) }
 {
     let owns = flatten(alloc, source, draft, ids)?;
     let signals = source.design().signals.len();
@@ -38,9 +39,10 @@ fn lower_list(
 ) -> Result<List<StmtId>, NoMemory>
     requires ready { IsReady source.now draft.old [] }
     requires there { AreThere source.now.design ids.now }
-    ensures { IfOk result (λ list. ListPut draft.old draft.new [] list (lists_of source.now.design ids.now)) }
+    ensures { IfOk result (λ list. ListPut draft.old draft.new list (lists_of source.now.design ids.now) (lines_for source.now.design ids.now)) }
 {
     let lists = split(alloc, source, draft, ids)?;
+    draft.keeps();
     joined(alloc, lists.as_slice())
 }
 
@@ -51,12 +53,14 @@ pub fn lower_comb(
     draft: &mut PlainDraft,
 ) -> Result<List<StmtId>, NoMemory>
     requires { IsReady source.now draft.old [] }
-    ensures { IfOk result (λ list. ListPut draft.old draft.new [] list (folded_of source.now.design source.now.design.comb)) }
+    ensures { IfOk result (λ list. CombPut draft.old draft.new list (folded_of source.now.design source.now.design.comb) (lines_for source.now.design source.now.design.comb)) }
 {
     let design = source.design();
     let lists = split(alloc, source, draft, design.comb.as_slice())?;
-    let numbers = folded_numbers(alloc, draft.draft(), lists.as_slice())?;
-    put_folded(alloc, draft, lists.as_slice(), numbers.as_slice())
+    let folds = folds(alloc, draft.draft(), lists.as_slice())?;
+    let lists = fold_lists(alloc, draft, lists.as_slice(), folds.as_slice())?;
+    draft.keeps();
+    joined(alloc, lists.as_slice())
 }
 
 /// The statements of a domain, of all its parts in their order.

@@ -2,10 +2,10 @@
 
 ghost use Rattle.std.specs.Prelude.{◌≡◌, ◌<◌, length, IfOk};
 ghost use Rattle.lx_fhdl.specs.Designs.{shapes};
-ghost use Rattle.lx_fhdl.specs.Drafts.{DraftKeeps, CanAddStmt, CanAddTarget, ExprPut, StmtPut, TargetPut, started};
+ghost use Rattle.lx_fhdl.specs.Drafts.{DraftKeeps, CanAddStmt, CanAddTarget, started};
 ghost use Rattle.lx_fhdl.specs.Keeping.{EachOf, IsMemory, IsSignal};
 ghost use Rattle.lx_fhdl.specs.Nodes.{IsSmall};
-ghost use Rattle.lx_lower.specs.Plain.{ArePlain, CanAdd};
+ghost use Rattle.lx_lower.specs.Plain.{ArePlain, CanAdd, ExprAdded, StmtAdded, TargetAdded};
 
 use crate::groups::{Group, grouped};
 use crate::owned::Own;
@@ -59,32 +59,38 @@ impl PlainDraft {
     }
 
     /// Adds an expression over those that stand already, and gives its place.
-    #[tactic(auto, using(crate::proofs::Plains::plain_more))]
+    #[tactic(auto, using(crate::proofs::Plains::plain_more, crate::proofs::Plains::expr_added))]
     pub fn push_expr(&mut self, node: Expr) -> Result<ExprId, NoMemory>
         requires { CanAdd self.old node }
-        ensures { IfOk result (λ id. ExprPut self.old self.new node id.place) }
+        ensures { IfOk result (λ id. ExprAdded self.old self.new node id.place) }
     {
+        self.draft.keeps();
         let id = self.draft.push_expr(node)?;
+        self.draft.keeps();
         Ok(id)
     }
 
     /// Adds a target over those that stand already, and gives its place.
-    #[tactic(auto, using(crate::proofs::Plains::plain_target))]
+    #[tactic(auto, using(crate::proofs::Plains::plain_target, crate::proofs::Plains::target_added))]
     pub fn push_target(&mut self, node: Target) -> Result<TargetId, NoMemory>
         requires { CanAddTarget self.old node }
-        ensures { IfOk result (λ id. TargetPut self.old self.new node id.place) }
+        ensures { IfOk result (λ id. TargetAdded self.old self.new node id.place) }
     {
+        self.draft.keeps();
         let id = self.draft.push_target(node)?;
+        self.draft.keeps();
         Ok(id)
     }
 
     /// Adds a statement over those that stand already, and gives its place.
-    #[tactic(auto, using(crate::proofs::Plains::plain_stmt))]
+    #[tactic(auto, using(crate::proofs::Plains::plain_stmt, crate::proofs::Plains::stmt_added))]
     pub fn push_stmt(&mut self, node: Stmt) -> Result<StmtId, NoMemory>
         requires { CanAddStmt self.old node }
-        ensures { IfOk result (λ id. StmtPut self.old self.new node id.place) }
+        ensures { IfOk result (λ id. StmtAdded self.old self.new node id.place) }
     {
+        self.draft.keeps();
         let id = self.draft.push_stmt(node)?;
+        self.draft.keeps();
         Ok(id)
     }
 

@@ -1,6 +1,6 @@
 //! A design whose statements are to be lowered, after its expressions.
 
-ghost use Rattle.std.specs.Prelude.{◌≡◌, ◌<◌, ◌≤◌, length, IsTrue};
+ghost use Rattle.std.specs.Prelude.{◌≡◌, ℕ, ◌<◌, ◌≤◌, length, IsTrue};
 ghost use Rattle.lx_fhdl.specs.Designs.{shapes, term};
 ghost use Rattle.lx_fhdl.specs.Keeping.{Keeps};
 ghost use Rattle.lx_lowering.specs.Terms.{lower_term};
@@ -38,8 +38,9 @@ impl<'a> Source<'a> {
     ghost use Rattle.lx_fhdl.specs.Below.{stmt_below, target_below};
     ghost use Rattle.lx_fhdl.specs.Designs.{stmt, target};
     ghost use Rattle.lx_fhdl.specs.Keeping.{StmtStands, TargetStands};
-    ghost use Rattle.lx_fhdl.specs.Stmts.{node_stmt, node_target};
+    ghost use Rattle.lx_lower.specs.Lines.{lines_at};
     ghost use Rattle.lx_lower.specs.Operands.{HasShape};
+    ghost use Rattle.lx_lower.specs.Owned.{node_lines_of, target_of, tree_of};
     ghost use Rattle.lx_lower.specs.Sources.{IsLowered, IsRead};
 
     /// The design with these shapes and places of its expressions.
@@ -100,8 +101,8 @@ impl<'a> Source<'a> {
         requires { id.place < length self.now.design.targets }
         ensures below { IsTrue (target_below result.now id.place) }
         ensures stands { TargetStands (shapes self.now.design) (length self.now.design.signals) self.now.design.exprs result.now }
-        ensures tree { target self.now.design id.place ≡ node_target (term self.now.design) (target self.now.design) result.now }
-        ensures most { target_bits (shapes self.now.design) (node_target (term self.now.design) (target self.now.design) result.now) ≤ 127 }
+        ensures tree { target self.now.design id.place ≡ target_of self.now.design result.now }
+        ensures most { target_bits (shapes self.now.design) (target_of self.now.design result.now) ≤ 127 }
     {
         let design = self.design;
         design.targets.get(id)
@@ -112,7 +113,8 @@ impl<'a> Source<'a> {
         requires { id.place < length self.now.design.stmts }
         ensures below { IsTrue (stmt_below result.now id.place) }
         ensures stands { StmtStands (length self.now.design.exprs) (length self.now.design.targets) result.now }
-        ensures tree { stmt self.now.design id.place ≡ node_stmt (term self.now.design) (target self.now.design) (stmt self.now.design) result.now }
+        ensures tree { stmt self.now.design id.place ≡ tree_of self.now.design result.now }
+        ensures lines { (x : ℕ) → lines_at self.now.design x id.place ≡ node_lines_of self.now.design x result.now }
     {
         let design = self.design;
         design.stmts.get(id)

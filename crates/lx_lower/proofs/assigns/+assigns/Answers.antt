@@ -1,10 +1,7 @@
-use Rattle.std.proofs.Common.{rules, ◌∙◌, ◌<◌, [], length, refl, sym, ap, arith}
-use Rattle.lx_circuit.specs.Statements as tree
+use Rattle.std.proofs.Common.{rules, ◌∙◌, ◌<◌, [], length, refl, arith}
 use Rattle.lx_fhdl.specs.Below.{TargetId}
-use Rattle.lx_fhdl.specs.Designs.{shapes, term}
-use Rattle.lx_lowering.specs.Flat.{assigns}
-use Rattle.lx_lower.proofs.Pieces.{items_done, items_lower, items_more, most_as, node_as, part_added, parts_done, parts_lower, parts_more, rest_as, ready_for, ready_shapes, stands_as, target_below_at, whole_added}
-use Rattle.lx_lower.proofs.Puts.{on_ok, owned_kept, put_is, some_start}
+use Rattle.lx_lower.proofs.Pieces.{items_done, items_lower, items_more, most_as, node_as, part_added, put_target, parts_done, parts_lower, parts_more, rest_as, ready_for, ready_shapes, stands_as, target_below_at, whole_added}
+use Rattle.lx_lower.proofs.Puts.{on_ok, owned_kept, some_start}
 use Rattle.lx_lower.proofs.Sound.{grows_then, shape_kept, term_kept}
 use Rattle.lx_lower.proofs.assigns.+assigns.Goals as goal
 
@@ -33,26 +30,26 @@ put_assigns-put_pick-requires t c =
 
 pub put_assigns-returns-in-Whole : goal.put_assigns-returns-in-Whole
 put_assigns-returns-in-Whole t c =
-    let same = ap (λ (u : tree.Target). assigns (shapes c.args.source.now.design) u (term c.args.draft.now c.args.value.id.place)) (node_as _ _ _ _ _ c.target.ensures.tree c.in-Whole.is) in
-    on_ok c.put_assignment.result _ _ (λ p. put_is (sym same) p) c.put_assignment.ensures
+    let same = node_as _ _ _ _ _ c.target.ensures.tree c.in-Whole.is in
+    on_ok c.put_assignment.result _ _ (λ p. put_target _ c.args.line _ same p) c.put_assignment.ensures
 
 pub put_assigns-returns-in-Part : goal.put_assigns-returns-in-Part
 put_assigns-returns-in-Part t c =
-    let same = ap (λ (u : tree.Target). assigns (shapes c.args.source.now.design) u (term c.args.draft.now c.args.value.id.place)) (node_as _ _ _ _ _ c.target.ensures.tree c.in-Part.is) in
-    on_ok c.put_assignment-in-Part.result _ _ (λ p. put_is (sym same) p) c.put_assignment-in-Part.ensures
+    let same = node_as _ _ _ _ _ c.target.ensures.tree c.in-Part.is in
+    on_ok c.put_assignment-in-Part.result _ _ (λ p. put_target _ c.args.line _ same p) c.put_assignment-in-Part.ensures
 
 pub put_assigns-returns-in-Cat : goal.put_assigns-returns-in-Cat
 put_assigns-returns-in-Cat t c =
-    let same = ap (λ (u : tree.Target). assigns (shapes c.args.source.now.design) u (term c.args.draft.now c.args.value.id.place)) (node_as _ _ _ _ _ c.target.ensures.tree c.in-Cat.is) in
-    on_ok c.put_parts.result _ _ (λ p. put_is (sym same) p) (rw c.as_slice.ensures at c.put_parts.ensures)
+    let same = node_as _ _ _ _ _ c.target.ensures.tree c.in-Cat.is in
+    on_ok c.put_parts.result _ _ (λ p. put_target _ c.args.line _ same p) (rw c.as_slice.ensures at c.put_parts.ensures)
 
 pub put_assigns-returns-in-Pick : goal.put_assigns-returns-in-Pick
 put_assigns-returns-in-Pick t c =
-    let same = ap (λ (u : tree.Target). assigns (shapes c.args.source.now.design) u (term c.args.draft.now c.args.value.id.place)) (node_as _ _ _ _ _ c.target.ensures.tree c.in-Pick.is) in
-    on_ok c.put_pick.result _ _ (λ p. put_is (sym same) p) (rw c.as_slice-items.ensures at c.put_pick.ensures)
+    let same = node_as _ _ _ _ _ c.target.ensures.tree c.in-Pick.is in
+    on_ok c.put_pick.result _ _ (λ p. put_target _ c.args.line _ same p) (rw c.as_slice-items.ensures at c.put_pick.ensures)
 
 pub put_items-loop-number-init : goal.put_items-loop-number-init
-put_items-loop-number-init t c = some_start _ _ _ c.requires.ready.owned
+put_items-loop-number-init t c = some_start _ _ _ _ c.requires.ready.owned
 
 pub put_items-put_assigns-requires : goal.put_items-put_assigns-requires
 put_items-put_assigns-requires t c =
@@ -81,13 +78,13 @@ put_items-loop-number-preserved t c =
     let so = c.loop-number.invariant in
     let index = term_kept c.args.index.id.place own.grows (omega (arith, c.requires.index.there, so.grows.stays.exprs)) ∙ term_kept c.args.index.id.place so.grows c.requires.index.there in
     let value = term_kept c.args.value.id.place so.grows c.requires.value.there in
-    items_more _ _ _ _ _ _ _ _ _ _ c.in_ok-cond.cond.place (omega arith) c.requires.several refl value index so own (ready_shapes c.requires.ready (grows_then so.grows own.grows)) c.in_ok-cond.ensures (rw c.as_slice.ensures at c.in_ok-put_when.ensures)
+    items_more _ _ _ _ c.args.line _ _ _ _ _ _ c.in_ok-cond.cond.place (omega arith) c.requires.several refl value index so own (ready_shapes c.requires.ready (grows_then so.grows own.grows)) c.in_ok-cond.ensures (rw c.as_slice.ensures at c.in_ok-put_when.ensures)
 
 pub put_items-returns : goal.put_items-returns
-put_items-returns t c = items_done _ _ c.args.items.now c.loop-number.number _ _ (omega arith) c.loop-number.invariant
+put_items-returns t c = items_done _ _ c.args.items.now c.loop-number.number c.args.line _ _ (omega arith) c.loop-number.invariant
 
 pub put_parts-loop-number-init : goal.put_parts-loop-number-init
-put_parts-loop-number-init t c = (some_start _ _ _ c.requires.ready.owned, c.requires.value)
+put_parts-loop-number-init t c = (some_start _ _ _ _ c.requires.ready.owned, c.requires.value)
 
 pub put_parts-put_assigns-requires : goal.put_parts-put_assigns-requires
 put_parts-put_assigns-requires t c =
@@ -111,7 +108,7 @@ put_parts-loop-number-preserved t c =
     let so = c.loop-number.invariant.0 in
     let value = c.loop-number.invariant.1 in
     let sy = ready_shapes c.requires.ready (grows_then so.grows own.grows) in
-    (parts_more _ _ _ _ _ _ _ _ (omega arith) refl (rest_as _ _ sy value.there own.grows next) so own next.grows, next.shape)
+    (parts_more _ _ _ _ c.args.line _ _ _ _ (omega arith) refl (rest_as _ _ sy value.there own.grows next) so own next.grows, next.shape)
 
 pub put_parts-returns : goal.put_parts-returns
-put_parts-returns t c = parts_done _ _ c.args.parts.now c.loop-number.number _ (omega arith) c.loop-number.invariant.0
+put_parts-returns t c = parts_done _ _ c.args.parts.now c.loop-number.number c.args.line _ (omega arith) c.loop-number.invariant.0

@@ -2,6 +2,7 @@ use Rattle.std.proofs.Common.{◌+◌, ◌*◌, drop}
 use Rattle.lx_fhdl.specs.Designs.{shapes, target, term}
 use Rattle.lx_fhdl.specs.Stmts.{targets_at}
 use Rattle.lx_lowering.specs.Flat.{items_assigns, parts_assigns}
+use Rattle.lx_lower.specs.Lines.{targets_lines}
 use Rattle.lx_lower.specs.Operands.{HasShape}
 use Rattle.lx_lower.specs.Owned.{PutSome}
 use Rattle.lx_lower.proofs.assigns.+assigns.Given as goal
@@ -23,6 +24,8 @@ invariant-put_parts-loop-number l =
     PutSome l.initial.draft l.draft l.initial.out l.out
     (parts_assigns (shapes l.source.design) (targets_at (target l.source.design) l.parts) (term l.initial.draft l.initial.value.id.place))
     (parts_assigns (shapes l.source.design) (targets_at (target l.source.design) (drop l.number l.parts)) (term l.draft l.value.id.place))
+    (targets_lines (targets_at (target l.source.design) l.parts) l.line)
+    (targets_lines (targets_at (target l.source.design) (drop l.number l.parts)) l.line)
     × HasShape l.draft l.value
 
 abbrev pub invariant-put_items-loop-number : goal.invariant-put_items-loop-number
@@ -30,3 +33,5 @@ invariant-put_items-loop-number l =
     PutSome l.initial.draft l.draft l.initial.out l.out
     (items_assigns (shapes l.source.design) 0 (targets_at (target l.source.design) l.items) (term l.initial.draft l.index.id.place) (term l.initial.draft l.value.id.place))
     (items_assigns (shapes l.source.design) l.number (targets_at (target l.source.design) (drop l.number l.items)) (term l.initial.draft l.index.id.place) (term l.initial.draft l.value.id.place))
+    (targets_lines (targets_at (target l.source.design) l.items) l.line)
+    (targets_lines (targets_at (target l.source.design) (drop l.number l.items)) l.line)

@@ -8,12 +8,13 @@ use Rattle.lx_fhdl.specs.Designs.{shapes, term}
 use Rattle.lx_fhdl.specs.Stmts.{arms_at}
 use Rattle.lx_lowering.specs.Flat.{assigns, flat, flat_arms, flat_block, otherwise}
 use Rattle.lx_lower.specs.Keys.{none_after, seen_keys}
+use Rattle.lx_lower.specs.Lines.{lines_at, lines_in}
 use Rattle.lx_lower.specs.Ready.{LowerBranches}
-use Rattle.lx_lower.proofs.Flats.{after_first, arms_are, arms_done, arms_more, block_done, block_more, case_lower, case_stands, chain_done, chain_more, fails_bit, if_lower, if_stands, lone_branch, lone_put, no_items, no_none, node_stmt_as, node_stmt_is, none_bit, otherwise_empty, several_put, some_none}
+use Rattle.lx_lower.proofs.Flats.{after_first, arms_are, arms_done, arms_more, block_done, block_more, case_lower, case_stands, chain_done, chain_more, fails_bit, if_lower, if_stands, lone_branch, lone_put, no_items, no_none, node_lines_is, node_stmt_as, node_stmt_is, none_bit, otherwise_empty, several_put, some_none}
 use Rattle.lx_lower.proofs.Arms.{fresh_is, key_is}
 use Rattle.lx_lower.proofs.Items.{arm_body_at, bodies_after, body_at, cond_at, conds_after, stmt_below_at}
 use Rattle.lx_lower.proofs.Pieces.{lowered_kept, own_shape_is, ready_for, ready_shapes}
-use Rattle.lx_lower.proofs.Puts.{on_ok, own_new, owned_kept, put_after, put_is, put_none, put_then, some_last, some_start, some_under}
+use Rattle.lx_lower.proofs.Puts.{holds_new, on_ok, owned_kept, put_after, put_is, put_lines, put_none, put_then, some_last, some_start, some_under}
 use Rattle.lx_lower.proofs.Sound.{bit_kept, grows_same, grows_then, shape_kept, small_shape, term_kept}
 use Rattle.lx_lower.proofs.flat.+flat.Goals as goal
 
@@ -33,10 +34,10 @@ pub put_block_when-returns : goal.put_block_when-returns
 put_block_when-returns t c =
     let own = rw c.new-own.ensures at c.in_ok-put_flat_block.ensures in
     let cond = term_kept c.args.cond.place own.grows c.requires.cond in
-    on_ok c.put_when.result _ _ (λ p. some_under c.args.cond.place _ own.grows c.requires.ready.owned own.owned (λ k l. own_new k own l) cond p) (rw c.as_slice.ensures at c.put_when.ensures)
+    on_ok c.put_when.result _ _ (λ p. some_under c.args.cond.place _ own.grows c.requires.ready.owned (holds_new own) cond p) (rw c.as_slice.ensures at c.put_when.ensures)
 
 pub put_flat_block-loop-id-init : goal.put_flat_block-loop-id-init
-put_flat_block-loop-id-init t c = some_start _ _ _ c.requires.ready.owned
+put_flat_block-loop-id-init t c = some_start _ _ _ _ c.requires.ready.owned
 
 pub put_flat_block-put_flat-requires : goal.put_flat_block-put_flat-requires
 put_flat_block-put_flat-requires t c =
@@ -46,10 +47,10 @@ put_flat_block-put_flat-requires t c =
     (omega (arith, l), (ready_for _ c.requires.ready c.loop-id.invariant.grows c.loop-id.invariant.owned, omega (arith, l, c.requires.stmts.within)))
 
 pub put_flat_block-loop-id-preserved : goal.put_flat_block-loop-id-preserved
-put_flat_block-loop-id-preserved t c = block_more _ _ c.args.ids.now c.loop-id.id-index _ (omega arith) c.loop-id.invariant c.in_ok-put_flat.ensures
+put_flat_block-loop-id-preserved t c = block_more _ _ (lines_at c.args.source.now.design) c.args.ids.now c.loop-id.id-index _ (omega arith) c.loop-id.invariant c.in_ok-put_flat.ensures
 
 pub put_flat_block-returns : goal.put_flat_block-returns
-put_flat_block-returns t c = block_done _ _ c.args.ids.now c.loop-id.id-index (omega arith) c.loop-id.invariant
+put_flat_block-returns t c = block_done _ _ (lines_at c.args.source.now.design) c.args.ids.now c.loop-id.id-index (omega arith) c.loop-id.invariant
 
 pub put_flat-lowered-value-requires : goal.put_flat-lowered-value-requires
 put_flat-lowered-value-requires t c = record { lowered = c.requires.ready.lowered; place = let h = (node_stmt_as _ _ _ _ c.stmt.ensures.stands c.in-Assign.is).1 in omega (arith, h, c.requires.ready.all) }
@@ -73,17 +74,17 @@ pub put_flat-returns-in-Assign : goal.put_flat-returns-in-Assign
 put_flat-returns-in-Assign t c =
     let node = ap (flat (shapes c.args.source.now.design)) (node_stmt_is _ _ _ _ _ _ c.stmt.ensures.tree c.in-Assign.is) in
     let value = ap (assigns (shapes c.args.source.now.design) (designs.target c.args.source.now.design c.in-Assign.target.place)) c.lowered-value.ensures.tree in
-    on_ok c.put_assigns.result _ _ (λ p. put_is (value ∙ sym node) p) c.put_assigns.ensures
+    on_ok c.put_assigns.result _ _ (λ p. put_lines (node_lines_is _ _ _ _ c.stmt.ensures.lines c.in-Assign.is) (put_is (value ∙ sym node) p)) c.put_assigns.ensures
 
 pub put_flat-returns-in-If : goal.put_flat-returns-in-If
 put_flat-returns-in-If t c =
     let node = ap (flat (shapes c.args.source.now.design)) (node_stmt_is _ _ _ _ _ _ c.stmt.ensures.tree c.in-If.is) in
-    on_ok c.put_if.result _ _ (λ p. put_is (sym node) p) (rw (c.as_slice-branches.ensures, c.as_slice-rest.ensures) at c.put_if.ensures)
+    on_ok c.put_if.result _ _ (λ p. put_lines (node_lines_is _ _ _ _ c.stmt.ensures.lines c.in-If.is) (put_is (sym node) p)) (rw (c.as_slice-branches.ensures, c.as_slice-rest.ensures) at c.put_if.ensures)
 
 pub put_flat-returns-in-Case : goal.put_flat-returns-in-Case
 put_flat-returns-in-Case t c =
     let node = ap (flat (shapes c.args.source.now.design)) (node_stmt_is _ _ _ _ _ _ c.stmt.ensures.tree c.in-Case.is) in
-    on_ok c.put_case.result _ _ (λ p. put_is (sym node) p) (rw (c.as_slice-arms.ensures, c.as_slice-rest-in-Case.ensures) at c.put_case.ensures)
+    on_ok c.put_case.result _ _ (λ p. put_lines (node_lines_is _ _ _ _ c.stmt.ensures.lines c.in-Case.is) (put_is (sym node) p)) (rw (c.as_slice-arms.ensures, c.as_slice-rest-in-Case.ensures) at c.put_case.ensures)
 
 pub put_if-put_lone-requires : goal.put_if-put_lone-requires
 put_if-put_lone-requires t c = (omega arith, (c.requires.ready, (lone_branch _ _ c.args.branches.now _ c.requires.branches c.if-branches-eq1.true c.index-branches-0.is, c.requires.rest)))
@@ -107,7 +108,7 @@ pub put_several-returns : goal.put_several-returns
 put_several-returns t c =
     let own = rw c.as_slice-body.ensures at c.in_ok-put_block_when.ensures in
     on_ok c.put_chain.result _ _
-    (λ p. several_put _ _ _ c.args.branches.now c.index-branches-0.result _ c.lowered-cond.result.id.place c.in_ok-none.none.place c.requires.several c.index-branches-0.is c.lowered-cond.ensures.shape.there (ready_shapes c.requires.ready own.grows) c.lowered-cond.ensures.tree own c.in_ok-none.ensures p)
+    (λ p. several_put _ _ _ (lines_at c.args.source.now.design) c.args.branches.now c.index-branches-0.result _ _ c.lowered-cond.result.id.place c.in_ok-none.none.place c.requires.several c.index-branches-0.is c.lowered-cond.ensures.shape.there (ready_shapes c.requires.ready own.grows) c.lowered-cond.ensures.tree own c.in_ok-none.ensures p)
     (rw (after_first c.args.branches.now) at c.put_chain.ensures)
 
 pub put_lone-put_flat_block-requires : goal.put_lone-put_flat_block-requires
@@ -125,7 +126,7 @@ put_lone-returns t c =
     on_ok c.put_under.result _ _ (λ p. lone_put c.lowered-cond.result.id.place _ _ c.requires.ready.owned c.lowered-cond.ensures.tree own other p) (rw (c.as_slice-2.ensures, c.as_slice-3.ensures) at c.put_under.ensures)
 
 pub put_chain-loop-branch-init : goal.put_chain-loop-branch-init
-put_chain-loop-branch-init t c = (some_start _ _ _ c.requires.ready.owned, c.requires.none)
+put_chain-loop-branch-init t c = (some_start _ _ _ _ c.requires.ready.owned, c.requires.none)
 
 pub put_chain-lowered-cond-requires : goal.put_chain-lowered-cond-requires
 put_chain-lowered-cond-requires t c =
@@ -148,13 +149,13 @@ put_chain-loop-branch-preserved t c =
     let next = c.in_ok-none.ensures in
     let own = rw c.as_slice-body.ensures at c.in_ok-put_block_when.ensures in
     let step = grows_then here.grows own.grows in (
-      chain_more _ _ _ c.args.branches.now c.loop-branch.branch-index c.branch-item.result _ c.loop-branch.none.place c.lowered-cond.result.id.place c.in_ok-here.here.place c.in_ok-none.none.place c.loop-branch-test.true c.branch-item.is
+      chain_more _ _ _ (lines_at c.args.source.now.design) c.args.branches.now c.loop-branch.branch-index c.branch-item.result _ _ c.loop-branch.none.place c.lowered-cond.result.id.place c.in_ok-here.here.place c.in_ok-none.none.place c.loop-branch-test.true c.branch-item.is
           (ready_shapes c.requires.ready so.grows) (ready_shapes c.requires.ready (grows_then so.grows step)) c.lowered-cond.ensures.tree c.lowered-cond.ensures.shape.there bit.there so here own next,
       none_bit _ (bit_kept step bit) next,
     )
 
 pub put_arms-loop-number-init : goal.put_arms-loop-number-init
-put_arms-loop-number-init t c = some_start _ _ _ c.requires.ready.owned
+put_arms-loop-number-init t c = some_start _ _ _ _ c.requires.ready.owned
 
 pub put_arms-push_key-requires : goal.put_arms-push_key-requires
 put_arms-push_key-requires t c = shape_kept c.loop-number.invariant.grows c.requires.on
@@ -175,16 +176,17 @@ put_arms-loop-number-preserved t c =
     let own = rw c.as_slice-body.ensures at c.in_ok-put_block_when.ensures in
     let on = term_kept c.args.on.id.place so.grows c.requires.on.there in
     let is = key_is _ _ _ _ _ _ (own_shape_is c.requires.ready c.requires.on) (fresh_is _ _ _ _ _ _ c.loop-number-test.true c.index-arms-number.is c.requires.fresh c.loop-number-test.true) in
-    arms_more _ (designs.stmt c.args.source.now.design) c.args.arms.now c.loop-number.number c.index-arms-number.result _ c.args.on.id.place c.in_ok-here.here.place _ c.loop-number-test.true c.index-arms-number.is (ready_shapes c.requires.ready so.grows) on is so here own
+    arms_more _ (designs.stmt c.args.source.now.design) (lines_at c.args.source.now.design) c.args.arms.now c.loop-number.number c.index-arms-number.result _ c.args.on.id.place c.in_ok-here.here.place _ c.loop-number-test.true c.index-arms-number.is (ready_shapes c.requires.ready so.grows) on is so here own
 
 pub put_arms-returns : goal.put_arms-returns
-put_arms-returns t c = arms_done _ (designs.stmt c.args.source.now.design) c.args.arms.now c.loop-number.number (term c.args.draft.now c.args.on.id.place) (seen_keys (take c.loop-number.number c.args.arms.now)) (omega arith) c.loop-number.invariant
+put_arms-returns t c = arms_done _ (designs.stmt c.args.source.now.design) (lines_at c.args.source.now.design) c.args.arms.now c.loop-number.number (term c.args.draft.now c.args.on.id.place) (seen_keys (take c.loop-number.number c.args.arms.now)) (omega arith) c.loop-number.invariant
 
 pub put_case-lowered-on-requires : goal.put_case-lowered-on-requires
 put_case-lowered-on-requires t c = record { lowered = c.requires.ready.lowered; place = c.requires.on }
 
 pub put_otherwise-returns-then-is_empty : goal.put_otherwise-returns-then-is_empty
-put_otherwise-returns-then-is_empty t c = put_is (otherwise_empty _ _ _ c.args.rest.now (no_items _ _ c.is_empty.ensures c.if-is_empty.true)) (put_none c.args.draft.now _ c.requires.ready.owned)
+put_otherwise-returns-then-is_empty t c = let empty = no_items _ _ c.is_empty.ensures c.if-is_empty.true in
+    put_lines (λ k. sym (ap (lines_in (lines_at c.args.source.now.design k)) empty)) (put_is (otherwise_empty _ _ _ c.args.rest.now empty) (put_none c.args.draft.now _ c.requires.ready.owned))
 
 pub put_otherwise-put_block_when-requires : goal.put_otherwise-put_block_when-requires
 put_otherwise-put_block_when-requires t c =
@@ -250,4 +252,4 @@ put_otherwise-returns-in-None t c =
     on_ok c.put_flat_block.result _ _ (λ p. put_after no.grows c.requires.ready.owned (put_is same p)) c.put_flat_block.ensures
 
 pub put_chain-returns : goal.put_chain-returns
-put_chain-returns t c = on_ok c.put_block_when-2.result _ _ (λ p. some_last (chain_done _ _ _ c.args.branches.now c.loop-branch.branch-index _ _ (omega arith) c.loop-branch.invariant.0) p) c.put_block_when-2.ensures
+put_chain-returns t c = on_ok c.put_block_when-2.result _ _ (λ p. some_last (chain_done _ _ _ (lines_at c.args.source.now.design) c.args.branches.now c.loop-branch.branch-index _ _ _ (omega arith) c.loop-branch.invariant.0) p) c.put_block_when-2.ensures

@@ -1,4 +1,4 @@
-use Rattle.std.proofs.Common.{◌≡◌, ◌∙◌, ap, arith, rules, FitsSigned, Bool}
+use Rattle.std.proofs.Common.{◌∙◌, ap, arith, rules, FitsSigned, Bool}
 use Rattle.std.specs.Int.{w128}
 use Rattle.std.specs.Ordering.{int_eq}
 use Rattle.std.specs.Prelude.{◌&&◌, not}

@@ -1,10 +1,10 @@
 use Rattle.std.proofs.Common.{arith}
-use Rattle.lx_lower.proofs.Puts.{as_many, assign_added, grows_target, one_put, owned_kept}
+use Rattle.lx_lower.proofs.Puts.{as_many, assign_added, one_put, owned_kept}
 use Rattle.lx_lower.proofs.owned.put_assignment.Goals as goal
 
 pub put_own-requires : goal.put_own-requires
 put_own-requires c =
-    let g = grows_target _ _ _ _ c.in_ok-target.ensures in
+    let g = c.in_ok-target.ensures.grows in
     record {
       out = owned_kept c.args.out.now g c.requires.out;
       signal = omega (arith, as_many g, c.requires.target.signal);

@@ -2,6 +2,7 @@ use Rattle.std.proofs.Common.{◌≡◌, [], ap, rules}
 use Rattle.std.specs.Prelude.{List}
 use Rattle.lx_fhdl.specs.Below.{StmtId}
 use Rattle.lx_fhdl.specs.Designs.{stmts_of}
+use Rattle.lx_lower.specs.Lines.{lines}
 use Rattle.lx_lower.specs.Lists.{lists_of}
 use Rattle.lx_lower.proofs.BySignal.{sync_there}
 use Rattle.lx_lower.proofs.Listing.{list_is, parts_more, parts_none}
@@ -23,4 +24,5 @@ pub loop-domain-preserved : goal.loop-domain-preserved
 loop-domain-preserved c =
     let ids : c.in_ok-ids.ids ≡ stmts_of c.loop-domain.domain c.args.source.now.design.sync = rw (c.as_slice.ensures, c.design-design.ensures.is) at c.in_ok-ids.ensures in
     let stmts = rw c.as_slice-in-loop-domain.ensures at c.in_ok-stmts.ensures in
-    parts_more _ _ _ _ _ _ _ _ c.loop-domain.invariant (list_is _ _ _ _ (ap (λ (is : List StmtId). lists_of c.args.source.now.design is) ids) stmts) c.in_ok-push.ensures.ok
+    parts_more _ _ _ _ _ _ _ _ c.loop-domain.invariant
+    (list_is _ _ _ _ _ _ _ (ap (λ (is : List StmtId). lists_of c.args.source.now.design is) ids) (λ k. ap (λ (is : List StmtId). lines c.args.source.now.design k is) ids) stmts) c.in_ok-push.ensures.ok

@@ -4,6 +4,7 @@ use Rattle.std.proofs.lemmas.Result.{IfOk-weaker}
 use Rattle.lx_fhdl.specs.declared.design.Design.{Design}
 use Rattle.lx_lower.specs.Lists.{AreBySignal}
 use Rattle.lx_lower.specs.Owned.{all_signals}
+use Rattle.lx_lower.proofs.BySignal.{split_is_alone}
 use Rattle.lx_lower.proofs.Grouping.{signals_owned}
 use Rattle.lx_lower.proofs.Listing.{split_put}
 use Rattle.lx_lower.proofs.parts.split.Goals as goal
@@ -20,4 +21,5 @@ returns c =
     let put = c.in_ok-owns.ensures in
     let same : c.len-signals.result ≡ length c.flatten.new.draft.signals =
     c.len-signals.ensures ∙ ap (λ (d : Design). length d.signals) c.design.ensures.is ∙ ap length (sym (put.grows.signals ∙ c.requires.ready.lowered.signals)) in
-    IfOk-weaker c.by_signal.result _ _ (λ lists h. split_put _ _ _ _ _ put (subst (λ (n : ℕ). AreBySignal n c.in_ok-owns.owns lists.items) same h)) (rw c.as_slice.ensures at c.by_signal.ensures)
+    let alone = split_is_alone c.args.source.now.design c.args.ids.now c.design.ensures.keeps.keeps c.requires.there in
+    IfOk-weaker c.by_signal.result _ _ (λ lists h. split_put _ _ _ _ _ _ alone put (subst (λ (n : ℕ). AreBySignal n c.in_ok-owns.owns lists.items) same h)) (rw c.as_slice.ensures at c.by_signal.ensures)

@@ -1,4 +1,4 @@
-use Rattle.lx_lower.proofs.Reading.{stmt_read, stmt_tree}
+use Rattle.lx_lower.proofs.Reading.{stmt_lines, stmt_read, stmt_tree}
 use Rattle.lx_lower.proofs.source.Source.stmt.Goals as goal
 
 pub get-requires : goal.get-requires
@@ -9,4 +9,5 @@ returns c = rw (← c.self.view_is) (record {
   below = c.get.ensures.lower;
   stands = stmt_read _ _ _ c.self.invariant.keeps c.get.ensures.item;
   tree = stmt_tree _ _ _ c.self.invariant.keeps c.get.ensures.item;
+  lines = stmt_lines _ _ _ c.self.invariant.keeps c.get.ensures.item;
 })

@@ -1,9 +1,9 @@
 use Rattle.std.proofs.Common.{arith, rules}
-use Rattle.lx_lower.proofs.Folding.{fold_number, some_done}
-use Rattle.lx_lower.proofs.fold.folded_number.Goals as goal
+use Rattle.lx_lower.proofs.Folding.{some_done, fold_number}
+use Rattle.lx_lower.proofs.fold.fold_of.Goals as goal
 
-pub returns : goal.returns
-returns c =
+pub returns-clause-number : goal.returns-clause-number
+returns-clause-number c =
     fold_number _ _ c.lay-pattern.result c.after_block-after.result _ c.signal-signal.result.now.shape c.signal-signal.result.now.reset _
     (some_done _ _ _ c.is_empty.ensures c.if-is_empty.false) c.if-not-block_reads_none.ensures c.signal-signal.ensures.shape c.signal-signal.ensures.reset
     (search rules) (search rules) c.lay-pattern.ensures c.after_block-after.ensures (omega arith) c.wrap.ensures
