@@ -97,7 +97,11 @@ no_child_fault s t (Fetch memory width at) e = none_left (fault_of s (t at.place
 pub children_of : (P : ℕ → Type 0) (xs : List Expr) → EachLower expr_below xs → (k : ℕ) (x : Expr) → slice_get xs k ≡ Some x → ((j : ℕ) → j < k → P j) → EachChild P x
 children_of P xs l k x e h = each_child P k x h (lower_at expr_below xs l k x e)
 
-all_parts : (t : ℕ → Term) (is : List ExprId) → EachPlace (λ j. HasAllParts (t j)) is → HaveAllParts (terms_at t is)
+-- any signal
+abbrev pub Any : ℕ → Type 0
+Any x = Unit {0}
+
+all_parts : (t : ℕ → Term) (is : List ExprId) → EachPlace (λ j. HasAllParts Any (t j)) is → HaveAllParts Any (terms_at t is)
 all_parts t [] h = tt
 all_parts t (i ∷ is) h = (h.0, all_parts t is h.1)
 
@@ -105,7 +109,7 @@ some_parts : (t : ℕ → Term) (is : List ExprId) → 0 < length is → IsSome 
 some_parts t [] h = absurd (omega arith)
 some_parts t (i ∷ is) h = tt
 
-node_parts : (t : ℕ → Term) (x : Expr) → HasParts x → EachChild (λ j. HasAllParts (t j)) x → HasAllParts (node_term t x)
+node_parts : (t : ℕ → Term) (x : Expr) → HasParts x → EachChild (λ j. HasAllParts Any (t j)) x → HasAllParts Any (node_term t x)
 node_parts t (Const value bits signed) p h = tt
 node_parts t (Sig x) p h = tt
 node_parts t (Unary op of) p h = h
@@ -118,10 +122,10 @@ node_parts t (Slice of low high) p h = h
 node_parts t (Fetch memory width at) p h = h
 
 -- each Cat and each Pick in the tree at a place has a part
-pub term_parts : (d : Design) → Keeps d → (k : ℕ) → k < length d.exprs → HasAllParts (design.term d k)
-term_parts d p = by_places (λ k. HasAllParts (design.term d k)) d.exprs (λ k x found below.
-    subst (λ (t : Term). HasAllParts t) (sym (term_at-is d.exprs p.arenas.exprs_lower k x found))
-    (node_parts (term_at d.exprs) x (p.arenas.parts k x found) (children_of (λ j. HasAllParts (term_at d.exprs j)) d.exprs p.arenas.exprs_lower k x found below)))
+pub term_parts : (d : Design) → Keeps d → (k : ℕ) → k < length d.exprs → HasAllParts Any (design.term d k)
+term_parts d p = by_places (λ k. HasAllParts Any (design.term d k)) d.exprs (λ k x found below.
+    subst (λ (t : Term). HasAllParts Any t) (sym (term_at-is d.exprs p.arenas.exprs_lower k x found))
+    (node_parts (term_at d.exprs) x (p.arenas.parts k x found) (children_of (λ j. HasAllParts Any (term_at d.exprs j)) d.exprs p.arenas.exprs_lower k x found below)))
 
 -- the children of a node are there, and have no fault
 pub children_there : (d : Design) → Keeps d → (k : ℕ) (x : Expr) → slice_get d.exprs k ≡ Some x → EachChild (λ j. j < length d.exprs) x
@@ -136,11 +140,11 @@ children_sound d p k x e =
 
 -- every expression has 1 to 127 bits
 pub term_small : (d : Design) → Keeps d → (k : ℕ) → k < length d.exprs → IsSmall (shape_of (shapes d) (design.term d k))
-term_small d p k h = tree_small (shapes d) (signal_small d p) (design.term d k) (term_parts d p k h) (p.arenas.shaped k h)
+term_small d p k h = tree_small Any (shapes d) (λ x u. signal_small d p x) (design.term d k) (term_parts d p k h) (p.arenas.shaped k h)
 
 -- its value fits them, where those of all signals fit
 pub term_fits : (d : Design) → Keeps d → (v : Values) → ((x : ℕ) → Fits (shapes d x) (v (At x))) → (k : ℕ) → k < length d.exprs → Fits (shape_of (shapes d) (design.term d k)) (value_of (shapes d) v (design.term d k))
-term_fits d p v f k h = tree_fits (shapes d) v (signal_small d p) f (design.term d k) (term_parts d p k h) (p.arenas.shaped k h)
+term_fits d p v f k h = tree_fits Any (shapes d) v (λ x u. signal_small d p x) (λ x u. f x) (design.term d k) (term_parts d p k h) (p.arenas.shaped k h)
 
 pub all_fit : (d : Design) → Keeps d → (steps : List Step) (inputs : Values) → StepsFit (circuit_of d) steps → InputsFit (circuit_of d) inputs → (v : Values) → IsView (circuit_of d) steps inputs v → AllFit d v
 all_fit d p steps inputs f i v w =

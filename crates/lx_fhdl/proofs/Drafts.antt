@@ -1,36 +1,38 @@
 -- A draft that grows by a node keeps what it keeps, and what stood in it stays.
 use Rattle.std.proofs.Common.{◌≡◌, ℕ, zero, suc, ◌<◌, ◌≤◌, List, [], ◌∷◌, ◌++◌, length, refl, sym, ap, subst, ◌∙◌, arith}
 use Rattle.std.specs.Prelude.{None, Some, map, slice_get, slice_index_or}
-use Rattle.std.proofs.lemmas.Option.{slice_get_within}
-use Rattle.lx_arena.specs.Folds.{Added, Same}
+use Rattle.lx_arena.specs.Folds.{Added}
 use Rattle.lx_arena.specs.Lower.{EachLower}
-use Rattle.lx_arena.proofs.Places.{each_more, one_longer, places_more}
+use Rattle.lx_arena.proofs.Places.{each_more, get_front, one_longer, places_more}
 use Rattle.lx_circuit.specs.Circuit.{nothing}
 use Rattle.lx_circuit.specs.Shapes.{Shapes, shape_of, fault_of}
 use Rattle.lx_circuit.specs.Statements as tree
-use Rattle.lx_circuit.specs.Terms.{Term}
-use Rattle.lx_fhdl.specs.Below.{expr_below, target_below, stmt_below}
+use Rattle.lx_fhdl.specs.Below.{StmtId, expr_below, target_below, stmt_below}
 use Rattle.lx_fhdl.specs.Designs as design
 use Rattle.lx_fhdl.specs.Designs.{circuit_of, made_of, shapes}
-use Rattle.lx_fhdl.specs.Drafts.{DraftKeeps, CanAddExpr, CanAddTarget, CanAddStmt, Stays, ExprPut, TargetPut, StmtPut}
-use Rattle.lx_fhdl.specs.Keeping.{EachOf, IsSignal, BranchesStand, HasPlainIndex, NamesThere, StmtStands, TakesOperands, TargetStands}
-use Rattle.lx_fhdl.specs.Nodes.{EachChild, HasParts, IsSmall}
+use Rattle.lx_fhdl.specs.Drafts.{DraftKeeps, IsDraft, IsDraftPort, HaveDomains, ListsStand, CanAddExpr, CanAddTarget, CanAddStmt, Stays, ExprPut, TargetPut, StmtPut, SignalPut, MemoryPut, PortPut}
+use Rattle.lx_fhdl.specs.Keeping.{EachOf, IsMemory, IsPort, IsSignal, Keeps, BranchesStand, HasPlainIndex, NamesThere, StmtStands, TakesOperands, TargetStands}
+use Rattle.lx_fhdl.specs.Nodes.{HasParts, IsSmall}
 use Rattle.lx_fhdl.specs.Stmts.{node_stmt, node_target, target_at, stmt_at}
 use Rattle.lx_fhdl.specs.Trees.{node_term, term_at}
 use Rattle.lx_fhdl.specs.declared.design.Design.{Design}
+use Rattle.lx_fhdl.specs.declared.design.Domain.{Domain}
+use Rattle.lx_fhdl.specs.declared.design.Memory.{Memory}
+use Rattle.lx_fhdl.specs.declared.design.Port.{Port}
 use Rattle.lx_fhdl.specs.declared.design.Signal.{Signal}
+use Rattle.lx_fhdl.specs.declared.design.SyncPart.{SyncPart}
 use Rattle.lx_fhdl.specs.declared.exprs.Expr.{Expr}
+use Rattle.lx_fhdl.specs.declared.exprs.SigId.{SigId}
 use Rattle.lx_fhdl.specs.declared.stmts.Branch.{Branch}
 use Rattle.lx_fhdl.specs.declared.stmts.Stmt.{Stmt}
 use Rattle.lx_fhdl.specs.declared.stmts.Stmt.TheVariants as stmt
 use Rattle.lx_fhdl.specs.declared.stmts.Target.{Target}
 use Rattle.lx_fhdl.specs.declared.stmts.Target.TheVariants as target
-use Rattle.lx_fhdl.specs.declared.exprs.Expr.TheVariants as expr
 use Rattle.lx_fhdl.proofs.Arena.{each_child}
-use Rattle.lx_fhdl.proofs.Designs.{children_of}
 use Rattle.lx_fhdl.proofs.StmtTrees.{stmt_added, stmt_at-is, target_added, target_at-is}
 use Rattle.lx_fhdl.proofs.Trees.{term_added, term_at-is}
 use Rattle.lx_fhdl.proofs.Staying.{HasIndex, HaveIndices, target_kept, stmt_kept}
+use Rattle.lx_fhdl.proofs.Wider.{IsWider, SameShapes, arenas_wider, index_kept, indices_kept, one_of, ports_stand, ports_wider, sizes_stay, stands_kept, wider_memory, wider_same, wider_signal}
 
 -- ---- what the nodes of a draft name
 
@@ -42,6 +44,26 @@ has_index s n xs (target.Pick items index) h = h.1
 
 have_indices : (d : Design) → DraftKeeps d → HaveIndices (length d.exprs) d.targets
 have_indices d keep k x e = has_index (shapes d) (length d.signals) d.exprs x (keep.arenas.targets k x e)
+
+-- ---- growth
+
+pub stays_same : (d : Design) → Stays d d
+stays_same d = record {
+  exprs = omega arith;
+  targets = omega arith;
+  stmts = omega arith;
+  terms = λ k l. refl;
+  target_trees = λ k l. refl;
+  stmt_trees = λ k l. refl;
+  stmt_nodes = λ k l. refl;
+  signals_more = omega arith;
+  signals = λ k l. refl;
+  memories_more = omega arith;
+  memories = λ k l. refl;
+  ports_more = omega arith;
+  ports = λ k l. refl;
+  sizes = record { signals = λ k l. refl; exprs = λ k l. refl; targets = λ k l. refl };
+}
 
 -- ---- by an expression
 
@@ -81,42 +103,22 @@ expr_put d x keep node low =
         stmt_nodes = λ k l. refl;
         signals_more = omega arith;
         signals = λ k l. refl;
+        memories_more = omega arith;
+        memories = λ k l. refl;
+        ports_more = omega arith;
+        ports = λ k l. refl;
+        sizes = sizes_stay d (with_expr d x) (wider_same d (with_expr d x) refl refl) keep.arenas added.grows.trees (λ k l. targets_over d x keep node low k);
       };
     }
 
-target_wider : (d : Design) (y : Expr) (x : Target) → CanAddExpr d y → EachLower expr_below (d.exprs ++ y ∷ []) → TargetStands (shapes d) (length d.signals) d.exprs x → TargetStands (shapes d) (length d.signals) (d.exprs ++ y ∷ []) x
-target_wider d y (target.Whole x) node low h = h
-target_wider d y (target.Part x low len) node l h = h
-target_wider d y (target.Cat parts) node low h = h
-target_wider d y (target.Pick items index) node low h = (
-  h.0,
-  omega (arith, h.1, one_longer d.exprs y),
-  ap (λ (t : Term). (shape_of (shapes d) t).signed) ((added_expr d y node low).grows.trees index.place h.1) ∙ h.2,
-)
+-- the shapes at the old places
+same_sizes : (d : Design) (x : Expr) → CanAddExpr d x → EachLower expr_below (d.exprs ++ x ∷ []) → SameShapes (shapes d) (shapes d) d.exprs (d.exprs ++ x ∷ []) (length d.exprs)
+same_sizes d x node low k l = ap (shape_of (shapes d)) ((added_expr d x node low).grows.trees k l)
 
--- an index among these expressions has the same shape where their trees are the same
-pub index_kept : (s : Shapes) (n : ℕ) (xs ys : List Expr) (x : Expr) → Same (term_at ys) (term_at xs) n → EachChild (λ j. j < n) x → HasPlainIndex s xs x → HasPlainIndex s ys x
-index_kept s n xs ys (expr.Const value bits signed) e c h = tt
-index_kept s n xs ys (expr.Sig x) e c h = tt
-index_kept s n xs ys (expr.Unary op of) e c h = tt
-index_kept s n xs ys (expr.Binary op left right) e c h = tt
-index_kept s n xs ys (expr.Mux cond then_ else_) e c h = tt
-index_kept s n xs ys (expr.Cat parts) e c h = tt
-index_kept s n xs ys (expr.Pick items index) e c h = tt
-index_kept s n xs ys (expr.Replicate of count) e c h = tt
-index_kept s n xs ys (expr.Slice of low high) e c h = tt
-index_kept s n xs ys (expr.Fetch memory width at) e c h = ap (λ (t : Term). (shape_of s t).signed) (e at.place c) ∙ h
-
-old_index : (d : Design) (y : Expr) → DraftKeeps d → CanAddExpr d y → EachLower expr_below (d.exprs ++ y ∷ []) → (k : ℕ) (x : Expr) → slice_get d.exprs k ≡ Some x → HasPlainIndex (shapes d) (d.exprs ++ y ∷ []) x
-old_index d y keep node low k x e =
-    let within = slice_get_within d.exprs k x e in
-    let there = children_of (λ j. j < length d.exprs) d.exprs keep.arenas.exprs_lower k x e (λ j l. omega arith) in
-    index_kept (shapes d) (length d.exprs) d.exprs (d.exprs ++ y ∷ []) x (added_expr d y node low).grows.trees there (keep.arenas.indices k x e)
-
-new_index : (d : Design) (y : Expr) → CanAddExpr d y → EachLower expr_below (d.exprs ++ y ∷ []) → HasPlainIndex (shapes d) (d.exprs ++ y ∷ []) y
-new_index d y node low =
-    let there = each_child (λ j. j < length d.exprs) (length d.exprs) y (λ j l. l) (search node.below) in
-    index_kept (shapes d) (length d.exprs) d.exprs (d.exprs ++ y ∷ []) y (added_expr d y node low).grows.trees there node.index
+new_index : (d : Design) (x : Expr) → CanAddExpr d x → EachLower expr_below (d.exprs ++ x ∷ []) → HasPlainIndex (shapes d) (d.exprs ++ x ∷ []) x
+new_index d x node low =
+    let there = each_child (λ j. j < length d.exprs) (length d.exprs) x (λ j l. l) (search node.below) in
+    index_kept (shapes d) (shapes d) (length d.exprs) d.exprs (d.exprs ++ x ∷ []) x (same_sizes d x node low) there node.index
 
 branches_wider : (n m : ℕ) (bs : List Branch) → n ≤ m → BranchesStand n bs → BranchesStand m bs
 branches_wider n m [] l h = tt
@@ -142,8 +144,11 @@ expr_keeps d x keep node low =
         operands = each_more TakesOperands d.exprs x keep.arenas.operands node.operands;
         parts = each_more HasParts d.exprs x keep.arenas.parts node.parts;
         named = each_more (NamesThere (length d.signals) d.memories) d.exprs x keep.arenas.named node.named;
-        indices = each_more (HasPlainIndex (shapes d) (d.exprs ++ x ∷ [])) d.exprs x (old_index d x keep node low) (new_index d x node low);
-        targets = λ k t e. target_wider d x t node low (keep.arenas.targets k t e);
+        indices = each_more (HasPlainIndex (shapes d) (d.exprs ++ x ∷ [])) d.exprs x
+            (indices_kept (shapes d) (shapes d) d.exprs (d.exprs ++ x ∷ []) keep.arenas.exprs_lower (same_sizes d x node low) keep.arenas.indices)
+            (new_index d x node low);
+        targets = λ k t e.
+            stands_kept (shapes d) (shapes d) (length d.signals) (length d.signals) d.exprs (d.exprs ++ x ∷ []) t (omega arith) added.grows.longer (λ y l. refl) (same_sizes d x node low) (keep.arenas.targets k t e);
         target_bits = λ k l.
             let e : tree.target_bits (shapes d) (design.target (with_expr d x) k) ≡ tree.target_bits (shapes d) (design.target d k) = ap (tree.target_bits (shapes d)) (targets_over d x keep node low k) in
             omega (arith, e, keep.arenas.target_bits k l);
@@ -183,6 +188,11 @@ target_put d x keep node low =
         stmt_nodes = λ k l. refl;
         signals_more = omega arith;
         signals = λ k l. refl;
+        memories_more = omega arith;
+        memories = λ k l. refl;
+        ports_more = omega arith;
+        ports = λ k l. refl;
+        sizes = sizes_stay d (with_target d x) (wider_same d (with_target d x) refl refl) keep.arenas (λ k l. refl) added.grows.trees;
       };
     }
 
@@ -232,6 +242,11 @@ stmt_put d x keep node low =
         stmt_nodes = added.grows.nodes;
         signals_more = omega arith;
         signals = λ k l. refl;
+        memories_more = omega arith;
+        memories = λ k l. refl;
+        ports_more = omega arith;
+        ports = λ k l. refl;
+        sizes = sizes_stay d (record d { stmts = d.stmts ++ x ∷ [] }) (wider_same d (record d { stmts = d.stmts ++ x ∷ [] }) refl refl) keep.arenas (λ k l. refl) (λ k l. refl);
       };
     }
 
@@ -255,6 +270,153 @@ stmt_keeps d x keep node low = record {
   memories = keep.memories;
 }
 
+-- ---- the signals, memories and ports
+
+-- the second list begins with the first
+abbrev Begins : {T : Type 0} → List T → List T → Type 0
+Begins xs ys = (length xs ≤ length ys) × ((k : ℕ) → k < length xs → slice_get ys k ≡ slice_get xs k)
+
+begins_same : {T : Type 0} (xs : List T) → Begins xs xs
+begins_same xs = (omega arith, λ k l. refl)
+
+begins_more : {T : Type 0} (xs : List T) (y : T) → Begins xs (xs ++ y ∷ [])
+begins_more xs y = (omega (arith, one_longer xs y), λ k l. get_front xs (y ∷ []) k l)
+
+abbrev over : Design → List Signal → List Memory → List Port → Design
+over d ss ms qs = record d { signals = ss; memories = ms; ports = qs }
+
+stays_over : (d : Design) (ss : List Signal) (ms : List Memory) (qs : List Port) → DraftKeeps d → IsWider d (over d ss ms qs) → Begins d.signals ss → Begins d.memories ms → Begins d.ports qs → Stays d (over d ss ms qs)
+stays_over d ss ms qs keep w f g h = record {
+  exprs = omega arith;
+  targets = omega arith;
+  stmts = omega arith;
+  terms = λ k l. refl;
+  target_trees = λ k l. refl;
+  stmt_trees = λ k l. refl;
+  stmt_nodes = λ k l. refl;
+  signals_more = f.0;
+  signals = f.1;
+  memories_more = g.0;
+  memories = g.1;
+  ports_more = h.0;
+  ports = h.1;
+  sizes = sizes_stay d (over d ss ms qs) w keep.arenas (λ k l. refl) (λ k l. refl);
+}
+
+-- ---- by a signal
+
+abbrev with_signal : Design → Signal → Design
+with_signal d x = record d { signals = d.signals ++ x ∷ [] }
+
+pub signal_put : (d : Design) (x : Signal) → IsDraft d → SignalPut d (record d { signals = d.signals ++ x ∷ [] }) x (length d.signals)
+signal_put d x draft = record {
+  is = refl;
+  place = refl;
+  stays = stays_over d (d.signals ++ x ∷ []) d.memories d.ports draft.keeps (wider_signal d x) (begins_more d.signals x) (begins_same d.memories) (begins_same d.ports);
+}
+
+pub signal_draft : (d : Design) (x : Signal) → IsDraft d → IsSignal x → IsDraft (record d { signals = d.signals ++ x ∷ [] })
+signal_draft d x draft h =
+    let w = wider_signal d x in
+    record {
+      keeps = record {
+        arenas = arenas_wider (shapes d) (shapes (with_signal d x)) (length d.signals) (length (d.signals ++ x ∷ [])) d.memories d.memories d.exprs d.targets d.stmts w.arenas draft.keeps.arenas;
+        signals = one_of IsSignal d.signals x draft.keeps.signals h;
+        memories = draft.keeps.memories;
+      };
+      ports = ports_wider d (with_signal d x) d.ports w draft.ports;
+    }
+
+-- ---- by a memory
+
+abbrev with_memory : Design → Memory → Design
+with_memory d x = record d { memories = d.memories ++ x ∷ [] }
+
+pub memory_put : (d : Design) (x : Memory) → IsDraft d → MemoryPut d (record d { memories = d.memories ++ x ∷ [] }) x (length d.memories)
+memory_put d x draft = record {
+  is = refl;
+  place = refl;
+  stays = stays_over d d.signals (d.memories ++ x ∷ []) d.ports draft.keeps (wider_memory d x) (begins_same d.signals) (begins_more d.memories x) (begins_same d.ports);
+}
+
+pub memory_draft : (d : Design) (x : Memory) → IsDraft d → IsMemory x → IsDraft (record d { memories = d.memories ++ x ∷ [] })
+memory_draft d x draft h =
+    let w = wider_memory d x in
+    record {
+      keeps = record {
+        arenas = arenas_wider (shapes d) (shapes (with_memory d x)) (length d.signals) (length d.signals) d.memories (d.memories ++ x ∷ []) d.exprs d.targets d.stmts w.arenas draft.keeps.arenas;
+        signals = draft.keeps.signals;
+        memories = one_of IsMemory d.memories x draft.keeps.memories h;
+      };
+      ports = ports_wider d (with_memory d x) d.ports w draft.ports;
+    }
+
+-- ---- by a port
+
+abbrev with_port : Design → Port → Design
+with_port d q = record d { ports = d.ports ++ q ∷ [] }
+
+pub port_put : (d : Design) (q : Port) → IsDraft d → PortPut d (record d { ports = d.ports ++ q ∷ [] }) q (length d.ports)
+port_put d q draft = record {
+  is = refl;
+  place = refl;
+  stays = stays_over d d.signals d.memories (d.ports ++ q ∷ []) draft.keeps (wider_same d (with_port d q) refl refl) (begins_same d.signals) (begins_same d.memories) (begins_more d.ports q);
+}
+
+pub port_draft : (d : Design) (q : Port) → IsDraft d → IsDraftPort d q → IsDraft (record d { ports = d.ports ++ q ∷ [] })
+unfolding circuit_of
+port_draft d q draft h = record {
+  keeps = record { arenas = draft.keeps.arenas; signals = draft.keeps.signals; memories = draft.keeps.memories };
+  ports = ports_wider d (with_port d q) (d.ports ++ q ∷ []) (wider_same d (with_port d q) refl refl) (one_of (IsDraftPort d) d.ports q draft.ports h);
+}
+
+-- ---- drafts
+
+-- a draft with other arenas keeps its ports
+draft_by : (d e : Design) → e.signals ≡ d.signals → e.memories ≡ d.memories → e.ports ≡ d.ports → IsDraft d → DraftKeeps e → IsDraft e
+draft_by d e p q r draft keep = record {
+  keeps = keep;
+  ports = subst (λ (qs : List Port). EachOf (IsDraftPort e) qs) (sym r) (ports_wider d e d.ports (wider_same d e p q) draft.ports);
+}
+
+pub expr_draft : (d : Design) (x : Expr) → IsDraft d → CanAddExpr d x → EachLower expr_below (d.exprs ++ x ∷ []) → IsDraft (record d { exprs = d.exprs ++ x ∷ [] })
+expr_draft d x draft node low = draft_by d (record d { exprs = d.exprs ++ x ∷ [] }) refl refl refl draft (expr_keeps d x draft.keeps node low)
+
+pub target_draft : (d : Design) (x : Target) → IsDraft d → CanAddTarget d x → EachLower target_below (d.targets ++ x ∷ []) → IsDraft (record d { targets = d.targets ++ x ∷ [] })
+target_draft d x draft node low = draft_by d (record d { targets = d.targets ++ x ∷ [] }) refl refl refl draft (target_keeps d x draft.keeps node low)
+
+pub stmt_draft : (d : Design) (x : Stmt) → IsDraft d → CanAddStmt d x → EachLower stmt_below (d.stmts ++ x ∷ []) → IsDraft (record d { stmts = d.stmts ++ x ∷ [] })
+stmt_draft d x draft node low = draft_by d (record d { stmts = d.stmts ++ x ∷ [] }) refl refl refl draft (stmt_keeps d x draft.keeps node low)
+
+-- ---- the whole
+
+abbrev ended : Design → List StmtId → List SyncPart → List Domain → List Port → List SigId → Design
+ended d comb sync domains ports ios = record d { comb = comb; sync = sync; domains = domains; ports = ports; ios = ios }
+
+-- a draft whose lists and ports stand keeps what designs keep
+pub ends : (d : Design) (comb : List StmtId) (sync : List SyncPart) (domains : List Domain) (ports : List Port) (ios : List SigId) → IsDraft d → EachOf (IsPort (ended d comb sync domains ports ios)) ports
+    → ListsStand (ended d comb sync domains ports ios) → Keeps (ended d comb sync domains ports ios)
+unfolding circuit_of
+ends d comb sync domains ports ios draft stand lists = record {
+  arenas = draft.keeps.arenas;
+  signals = draft.keeps.signals;
+  memories = draft.keeps.memories;
+  ports = stand;
+  comb = lists.comb;
+  sync = lists.sync;
+  domains = lists.domains;
+  domains_most = lists.domains_most;
+  domains_distinct = lists.domains_distinct;
+  ios = lists.ios;
+}
+
+-- so do its own ports, where their domains are there
+pub ends_own : (d : Design) (comb : List StmtId) (sync : List SyncPart) (domains : List Domain) (ios : List SigId) → IsDraft d → HaveDomains (length domains) d.ports
+    → ListsStand (ended d comb sync domains d.ports ios) → Keeps (ended d comb sync domains d.ports ios)
+ends_own d comb sync domains ios draft have lists =
+    let e = ended d comb sync domains d.ports ios in
+    ends d comb sync domains d.ports ios draft (ports_stand e d.ports (ports_wider d e d.ports (wider_same d e refl refl) draft.ports) have) lists
+
 -- ---- the node at a place
 
 pub term_is : (d : Design) (k : ℕ) (x : Expr) → EachLower expr_below d.exprs → slice_get d.exprs k ≡ Some x → design.term d k ≡ node_term (design.term d) x
@@ -274,9 +436,6 @@ stmt_there d k x keep e = keep.arenas.stmts k x e
 
 -- ---- growth in several steps
 
-pub stays_same : (d : Design) → Stays d d
-stays_same d = record { exprs = omega arith; targets = omega arith; stmts = omega arith; terms = λ k l. refl; target_trees = λ k l. refl; stmt_trees = λ k l. refl; stmt_nodes = λ k l. refl; signals_more = omega arith; signals = λ k l. refl }
-
 pub stays_then : (x y z : Design) → Stays x y → Stays y z → Stays x z
 stays_then x y z g h = record {
   exprs = omega (arith, g.exprs, h.exprs);
@@ -287,7 +446,16 @@ stays_then x y z g h = record {
   stmt_trees = λ k l. h.stmt_trees k (omega (arith, g.stmts)) ∙ g.stmt_trees k l;
   stmt_nodes = λ k l. h.stmt_nodes k (omega (arith, g.stmts)) ∙ g.stmt_nodes k l;
   signals_more = omega (arith, g.signals_more, h.signals_more);
-  signals = λ k l. h.signals k (omega (arith, g.signals_more)) ∙ g.signals k l;
+  signals = λ k l. h.signals k (omega (arith, l, g.signals_more)) ∙ g.signals k l;
+  memories_more = omega (arith, g.memories_more, h.memories_more);
+  memories = λ k l. h.memories k (omega (arith, l, g.memories_more)) ∙ g.memories k l;
+  ports_more = omega (arith, g.ports_more, h.ports_more);
+  ports = λ k l. h.ports k (omega (arith, l, g.ports_more)) ∙ g.ports k l;
+  sizes = record {
+    signals = λ k l. h.sizes.signals k (omega (arith, l, g.signals_more)) ∙ g.sizes.signals k l;
+    exprs = λ k l. h.sizes.exprs k (omega (arith, l, g.exprs)) ∙ g.sizes.exprs k l;
+    targets = λ k l. h.sizes.targets k (omega (arith, l, g.targets)) ∙ g.sizes.targets k l;
+  };
 }
 
 -- ---- signals

@@ -16,3 +16,4 @@ pub mod Staying
 pub mod StmtTrees
 pub mod Trees
 pub mod TreesFit
+pub mod Wider

@@ -8,7 +8,7 @@ use Rattle.lx_fhdl.specs.Trees.{term_at}
 use Rattle.lx_fhdl.specs.Stmts.{target_at, stmt_at}
 use Rattle.lx_fhdl.specs.Designs.{circuit_of}
 use Rattle.lx_fhdl.specs.Instance.{instance_exprs, instance_targets, instance_stmts, instance_signals, instance_memories, instance_ports, instance}
-use Rattle.lx_fhdl.specs.Rows.{AreWorked, AreSpelled, AreRefused}
+use Rattle.lx_fhdl.specs.Rows.{AreWorked, NodesAreWorked, AreSpelled, AreRefused}
 
 pub worked : AreWorked
 unfolding instance_exprs instance_targets instance_stmts instance_signals instance_memories instance_ports instance circuit_of fold_at term_at target_at stmt_at
@@ -25,6 +25,9 @@ worked = record {
   memory = refl;
   parts = refl;
 }
+
+pub nodes : NodesAreWorked
+nodes = record { wrapped = refl; before = refl; after = refl; too_early = refl; late = refl }
 
 pub spelled : AreSpelled
 spelled = record { name = refl; word = refl; digit = refl; dot = refl; none = refl }

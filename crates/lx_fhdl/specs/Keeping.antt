@@ -208,16 +208,20 @@ abbrev pub HasDomain : ℕ → Bool → Option ℕ → Type 0
 HasDomain n true o = IsSomeAnd o (λ k. k < n)
 HasDomain n false o = o ≡ None
 
--- a port of one of the design's memories, whose signals have the shapes that the memory asks for
-pub record IsPort (d : Design) (q : Port) : Type 0 where
+-- a port of one of the design's memories, whose signals have the shapes that the memory asks for, with n domains
+pub record PortStands (n : ℕ) (d : Design) (q : Port) : Type 0 where
   pub memory : q.memory < length d.memories
-  pub domain : HasDomain (length d.domains) (is_clocked q.mode q.we) q.domain
+  pub domain : HasDomain n (is_clocked q.mode q.we) q.domain
   pub adr : IsAddress d (memory_at d q.memory).depth q.adr
   pub dat_r : IfSome q.dat_r (IsUnsigned d (memory_at d q.memory).width)
   pub writer : WriterStands d (memory_at d q.memory).width q.part q.dat_w q.we
   -- its parts divide the word
   pub part_some : 1 ≤ q.part
   pub parts : (memory_at d q.memory).width % q.part ≡ 0
+
+-- with the design's own domains
+abbrev pub IsPort : Design → Port → Type 0
+IsPort d q = PortStands (length d.domains) d q
 
 -- ---- domains
 

@@ -1,12 +1,15 @@
 -- What a design means, and what it keeps, worked by hand on one design and on designs that are nearly like it.
-use Rattle.std.specs.Prelude.{◌≡◌, ℕ, true, false, List, [], ◌∷◌, ◌++◌, Option, Some, None, codes, pos}
+use Rattle.std.specs.Prelude.{◌≡◌, ℕ, true, false, List, [], ◌∷◌, ◌++◌, Option, Some, None, codes, pos, negsuc}
+use Rattle.lx_tables.specs.declared.operators.Op.TheVariants as op
 use Rattle.lx_circuit.specs.Terms as term
 use Rattle.lx_circuit.specs.Circuit.{Input, Comb, Sync, Read, Undriven, role, domain_at}
 use Rattle.lx_circuit.specs.Circuit as circuit
 use Rattle.lx_circuit.specs.Statements.{Then, Done}
+use Rattle.lx_fhdl.specs.Below.{expr_below, stmt_below}
 use Rattle.lx_fhdl.specs.Designs as design
 use Rattle.lx_fhdl.specs.Designs.{circuit_of, memory_at}
 use Rattle.lx_fhdl.specs.Keeping.{is_identifier, Keeps}
+use Rattle.lx_fhdl.specs.Nodes.{listed, node_value}
 use Rattle.lx_fhdl.specs.Instance.{the_signal, the_expr, the_target, the_stmt, reader_of, instance_exprs, instance_targets, instance_stmts, instance}
 use Rattle.lx_fhdl.specs.declared.exprs.SigId.{SigId}
 use Rattle.lx_fhdl.specs.declared.exprs.Expr.{Expr}
@@ -32,6 +35,16 @@ pub record AreWorked : Type 0 where
   pub memory : memory_at instance 0 ≡ record { width = 8; depth = 3; init = 1 ∷ 255 ∷ [] }
   -- the parts of a domain one after the other
   pub parts : (domain_at (circuit_of instance) 0).stmts ≡ Then (design.stmt instance 1) (Then (design.stmt instance 5) Done)
+
+-- What single nodes are, and where they may stand.
+pub record NodesAreWorked : Type 0 where
+  -- fifteen in four signed bits
+  pub wrapped : node_value [] (listed []) [] (expr.Const (pos 15) 4 true) ≡ negsuc 0
+  -- an If over the statement at place 0, and a sum of the expressions at places 0 and 1
+  pub before : stmt_below (stmt.If (record { cond = the_expr 0; body = the_stmt 0 ∷ [] } ∷ []) [] 1) 0 ≡ false
+  pub after : stmt_below (stmt.If (record { cond = the_expr 0; body = the_stmt 0 ∷ [] } ∷ []) [] 1) 1 ≡ true
+  pub too_early : expr_below (expr.Binary op.Add (the_expr 0) (the_expr 1)) 1 ≡ false
+  pub late : expr_below (expr.Binary op.Add (the_expr 0) (the_expr 1)) 2 ≡ true
 
 -- Which names are identifiers.
 pub record AreSpelled : Type 0 where

@@ -1,10 +1,11 @@
-//! A design while it grows. It keeps at each moment what a design keeps of its arenas, and what stands in it stays.
+//! A design while it grows. It keeps at each moment what a design keeps of its arenas, its signals, its memories and
+//! their ports, and what stands in it stays.
 
-ghost use Rattle.std.specs.Prelude.{◌≡◌, ◌<◌, length, slice_get, IfOk, IsTrue, OnErr, Some};
+ghost use Rattle.std.specs.Prelude.{[], ◌≡◌, ◌<◌, length, slice_get, IfOk, IsTrue, OnErr, Some};
 ghost use Rattle.lx_fhdl.specs.Below.{expr_below, stmt_below, target_below};
 ghost use Rattle.lx_fhdl.specs.Designs as designs;
-ghost use Rattle.lx_fhdl.specs.Drafts.{DraftKeeps, CanAddExpr, CanAddStmt, CanAddTarget, ExprPut, StmtPut, TargetPut, started};
-ghost use Rattle.lx_fhdl.specs.Keeping.{EachOf, IsMemory, IsSignal, StmtStands, TargetStands};
+ghost use Rattle.lx_fhdl.specs.Drafts.{DraftKeeps, CanAddExpr, CanAddStmt, CanAddTarget, ExprPut, HaveDomains, IsDraftPort, ListsStand, MemoryPut, PortPut, SignalPut, StmtPut, TargetPut, started};
+ghost use Rattle.lx_fhdl.specs.Keeping.{EachOf, IsMemory, IsPort, IsSignal, Keeps, StmtStands, TargetStands};
 ghost use Rattle.lx_fhdl.specs.Stmts.{node_stmt, node_target};
 ghost use Rattle.lx_fhdl.specs.Trees.{node_term};
 
@@ -15,8 +16,8 @@ use lx_text::{List, NoMemory};
 use std::alloc::Global;
 use std::marker::Model;
 
-/// A design while it grows: signals, and the arenas of expressions, targets and statements. Its lists of statements,
-/// its domains and its ports come last.
+/// A design while it grows: signals, memories and their ports, and the arenas of expressions, targets and statements.
+/// Its lists of statements, its domains and its ports to the outside come last.
 #[derive(Drop)]
 pub struct Draft {
     design: Design,
@@ -27,14 +28,21 @@ impl Model for Draft {
 
     ghost Value = { Design };
 
-    ghost use Rattle.lx_fhdl.specs.Drafts.{DraftKeeps};
+    ghost use Rattle.lx_fhdl.specs.Drafts.{IsDraft};
 
     ghost view = { λ a. a.design };
 
-    ghost invariant = { λ a. DraftKeeps a.design };
+    ghost invariant = { λ a. IsDraft a.design };
 }
 
 impl Draft {
+    /// A draft with nothing in it.
+    pub fn new(alloc: Global) -> Draft
+        ensures { result ≡ started [] [] }
+    {
+        Draft::start(alloc, List::new(alloc), List::new(alloc))
+    }
+
     /// A draft with these signals and memories, and nothing else.
     pub fn start(alloc: Global, signals: List<Signal>, memories: List<Memory>) -> Draft
         requires signals { EachOf IsSignal signals }
@@ -57,7 +65,7 @@ impl Draft {
         }
     }
 
-    /// A draft keeps what a design keeps of its arenas.
+    /// A draft keeps what a design keeps of its arenas, its signals and its memories.
     pub fn keeps(&self)
         ensures { DraftKeeps self.now }
     {
@@ -65,7 +73,7 @@ impl Draft {
     }
 
     /// Adds an expression over those that stand already, and gives its place.
-    #[tactic(auto, using(crate::proofs::Drafts::expr_put, crate::proofs::Drafts::expr_keeps))]
+    #[tactic(auto, using(crate::proofs::Drafts::expr_put, crate::proofs::Drafts::expr_draft))]
     pub fn push_expr(&mut self, node: Expr) -> Result<ExprId, NoMemory>
         requires { CanAddExpr self.old node }
         ensures ok { IfOk result (λ id. ExprPut self.old self.new node id.place) }
@@ -76,7 +84,7 @@ impl Draft {
     }
 
     /// Adds a target over those that stand already, and gives its place.
-    #[tactic(auto, using(crate::proofs::Drafts::target_put, crate::proofs::Drafts::target_keeps))]
+    #[tactic(auto, using(crate::proofs::Drafts::target_put, crate::proofs::Drafts::target_draft))]
     pub fn push_target(&mut self, node: Target) -> Result<TargetId, NoMemory>
         requires { CanAddTarget self.old node }
         ensures ok { IfOk result (λ id. TargetPut self.old self.new node id.place) }
@@ -87,7 +95,7 @@ impl Draft {
     }
 
     /// Adds a statement over those that stand already, and gives its place.
-    #[tactic(auto, using(crate::proofs::Drafts::stmt_put, crate::proofs::Drafts::stmt_keeps))]
+    #[tactic(auto, using(crate::proofs::Drafts::stmt_put, crate::proofs::Drafts::stmt_draft))]
     pub fn push_stmt(&mut self, node: Stmt) -> Result<StmtId, NoMemory>
         requires { CanAddStmt self.old node }
         ensures ok { IfOk result (λ id. StmtPut self.old self.new node id.place) }
@@ -95,6 +103,42 @@ impl Draft {
     {
         let id = self.design.stmts.push(node)?;
         Ok(id)
+    }
+
+    /// Adds a signal, and gives its place.
+    #[tactic(auto, using(crate::proofs::Drafts::signal_put, crate::proofs::Drafts::signal_draft))]
+    pub fn push_signal(&mut self, signal: Signal) -> Result<SigId, NoMemory>
+        requires { IsSignal signal }
+        ensures ok { IfOk result (λ id. SignalPut self.old self.new signal id.0) }
+        ensures err { OnErr result (self.new ≡ self.old) }
+    {
+        let id = SigId(self.design.signals.len());
+        self.design.signals.push(signal)?;
+        Ok(id)
+    }
+
+    /// Adds a memory, and gives its place.
+    #[tactic(auto, using(crate::proofs::Drafts::memory_put, crate::proofs::Drafts::memory_draft))]
+    pub fn push_memory(&mut self, memory: Memory) -> Result<usize, NoMemory>
+        requires { IsMemory memory }
+        ensures ok { IfOk result (λ place. MemoryPut self.old self.new memory place) }
+        ensures err { OnErr result (self.new ≡ self.old) }
+    {
+        let place = self.design.memories.len();
+        self.design.memories.push(memory)?;
+        Ok(place)
+    }
+
+    /// Adds a port of a memory that stands already, and gives its place. The domain that it names may come last.
+    #[tactic(auto, using(crate::proofs::Drafts::port_put, crate::proofs::Drafts::port_draft))]
+    pub fn push_port(&mut self, port: Port) -> Result<usize, NoMemory>
+        requires { IsDraftPort self.old port }
+        ensures ok { IfOk result (λ place. PortPut self.old self.new port place) }
+        ensures err { OnErr result (self.new ≡ self.old) }
+    {
+        let place = self.design.ports.len();
+        self.design.ports.push(port)?;
+        Ok(place)
     }
 
     /// The expression at a place: its tree is made of those of its children, which are lower.
@@ -134,11 +178,46 @@ impl Draft {
     pub fn design(&self) -> &Design
         ensures is { result.now ≡ self.now }
         ensures keeps { DraftKeeps self.now }
+        ensures ports { EachOf (IsDraftPort self.now) self.now.ports }
     {
         &self.design
     }
 
-    /// The design, with these statements, domains, ports of memories and ports.
+    /// The design, with these statements, domains and ports to the outside: it keeps what designs keep where these do.
+    pub fn complete(
+        self,
+        comb: List<StmtId>,
+        sync: List<SyncPart>,
+        domains: List<Domain>,
+        ios: List<SigId>,
+    ) -> Design
+        ensures is { result ≡ record self { comb = comb; sync = sync; domains = domains; ios = ios } }
+        ensures keeps { HaveDomains (length domains) self.ports → ListsStand result → Keeps result }
+    {
+        let Design {
+            exprs,
+            targets,
+            stmts,
+            signals,
+            memories,
+            ports,
+            ..
+        } = self.design;
+        Design {
+            exprs,
+            targets,
+            stmts,
+            signals,
+            comb,
+            sync,
+            domains,
+            memories,
+            ports,
+            ios,
+        }
+    }
+
+    /// The design, with these statements, domains, ports of memories in place of its own, and ports to the outside.
     pub fn finish(
         self,
         comb: List<StmtId>,
@@ -149,6 +228,7 @@ impl Draft {
     ) -> Design
         ensures is { result ≡ record self { comb = comb; sync = sync; domains = domains; ports = ports; ios = ios } }
         ensures keeps { DraftKeeps self }
+        ensures whole { EachOf (IsPort result) ports → ListsStand result → Keeps result }
     {
         let Design {
             exprs,

@@ -1,7 +1,7 @@
 //! Laws over all arenas and all designs.
 
 ghost use Rattle.lx_fhdl.specs.Extremes.{AreWorked};
-ghost use Rattle.lx_fhdl.specs.Rows.{AreRefused, AreSpelled};
+ghost use Rattle.lx_fhdl.specs.Rows.{AreRefused, AreSpelled, NodesAreWorked};
 ghost use Rattle.lx_fhdl.specs.Rows as rows;
 ghost use Rattle.lx_fhdl.specs.Instance.{instance};
 ghost use Rattle.lx_fhdl.specs.Keeping.{Keeps};
@@ -54,9 +54,10 @@ pub fn extremes_are_worked()
     ensures { AreWorked }
 {}
 
-/// What a design means, names, and designs that don't keep what designs keep, worked by hand.
+/// What a design means, single nodes, names, and designs that don't keep what designs keep, worked by hand.
 pub fn designs_are_worked()
     ensures meaning { rows.AreWorked }
+    ensures nodes { NodesAreWorked }
     ensures names { AreSpelled }
     ensures refused { AreRefused }
 {}

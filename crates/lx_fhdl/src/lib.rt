@@ -10,8 +10,6 @@ pub mod laws;
 pub mod places;
 pub mod steps;
 pub mod stmts;
-#[cfg(test)]
-mod tests;
 
 pub use design::{Design, Domain, Memory, Port, PortMode, Signal, SyncPart};
 pub use draft::Draft;
