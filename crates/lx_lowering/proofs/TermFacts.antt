@@ -1,33 +1,24 @@
 -- Terms that keep to n signals: their parts keep too, their shapes are small, and their values fit.
-use Rattle.std.proofs.Common.{◌≡◌, ℕ, ◌-◌, ◌*◌, ◌^◌, ◌<◌, ◌≤◌, Bool, true, false, ◌&&◌, List, ◌∷◌, refl, ◌∙◌, ap, arith, suc, zero}
-use Rattle.std.specs.Prelude.{ℤ, pos, Option, None}
-use Rattle.std.proofs.lemmas.Bool.{ltb-true, lt-ltb, and_parts, and_from, or_left, or_right}
-use Rattle.std.proofs.lemmas.Nat.{pow_pos, pow-add, mul-add-lt}
+use Rattle.std.proofs.Common.{◌≡◌, ℕ, ◌<◌, true, false, ◌&&◌, refl, ◌∙◌, ap}
+use Rattle.std.specs.Prelude.{ℤ, Option, None}
+use Rattle.std.proofs.lemmas.Bool.{ltb-true, lt-ltb, and_parts, and_from}
 use Rattle.lx_num.specs.declared.Shape.{Shape}
-use Rattle.lx_num.specs.Ints.{modulo, FitsBits, Fits, unsigned}
-use Rattle.lx_num.proofs.Ints.{modulo-below}
-use Rattle.lx_num.proofs.Ranges.{fits_pos, fits_wider, FitsBits-wrap_bits}
+use Rattle.lx_num.specs.Ints.{Fits, unsigned}
 use Rattle.lx_tables.specs.declared.operators.Op.{Op}
-use Rattle.lx_circuit.specs.Places.{Values, At, Word}
+use Rattle.lx_circuit.specs.Places.{Values, At}
 use Rattle.lx_circuit.specs.declared.WidthFault.{WidthFault}
 use Rattle.lx_circuit.specs.Terms.{Term, Terms, Constant, Signal, Unary, Binary, Mux, Cat, Replicate, Slice, Pick, Fetch, NoTerm, MoreTerms}
-use Rattle.lx_circuit.specs.Shapes.{Shapes, shape_of, shapes_of, fault_of, faults_of, or_else, joined, joined_bits, pick_shape, some_signed, widest, bits_sum, unary_shape, too_wide, index_fault, binary_fault, replicate_fault, slice_fault, pick_fault, constant_fault}
-use Rattle.lx_circuit.specs.Values.{value_of, values_of, cat_pattern, nth_or_last, count_of}
+use Rattle.lx_circuit.specs.Shapes.{Shapes, shape_of, shapes_of, fault_of, faults_of, or_else, joined, pick_shape, bits_sum, unary_shape, too_wide, index_fault, binary_fault, replicate_fault, slice_fault, pick_fault, constant_fault}
+use Rattle.lx_circuit.specs.Values.{value_of}
 use Rattle.lx_fhdl.specs.Nodes.{IsSmall}
-use Rattle.lx_fhdl.proofs.Fitting.{fits_joined, fits_copies, fits_field, fits_mux, fits_zero}
-use Rattle.lx_fhdl.proofs.Operators.{binary_fits, binary_small, unary_fits, unary_some, joined_some, not_wide, none_left, none_right, index_unsigned}
-use Rattle.lx_fhdl.proofs.Arena.{constant_small, replicate_small, slice_inside}
+use Rattle.lx_fhdl.proofs.Operators.{none_left, none_right, index_unsigned}
+use Rattle.lx_fhdl.proofs.TreesFit.{HasAllParts, HaveAllParts, IsSome, tree_small, tree_fits}
 use Rattle.lx_lowering.specs.Lowering.{TermKeeps, is_sound, are_sound, has_some}
 
 -- a list of terms that keep
 pub record TermsKeep (s : Shapes) (n : ℕ) (ts : Terms) : Type 0 where
   pub sound : are_sound n ts ≡ true
   pub fault : faults_of s ts ≡ None
-
--- a fact of each term in a list
-abbrev pub EachTerm : (Term → Type 0) → Terms → Type 0
-EachTerm P NoTerm = Unit {0}
-EachTerm P (MoreTerms t ts) = P t × EachTerm P ts
 
 -- all signals are small
 abbrev pub AreSmall : Shapes → ℕ → Type 0
@@ -213,109 +204,40 @@ keeps_slice s n a low high k e = record { sound = k.sound; fault = after_none (f
 pub keeps_fetch : (s : Shapes) (n m width : ℕ) (i : Term) → TermKeeps s n i → constant_fault (unsigned width) ≡ None → TermKeeps s n (Fetch m width i)
 keeps_fetch s n m width i k e = record { sound = k.sound; fault = after_none (fault_of s i) (constant_fault (unsigned width)) k.fault e }
 
--- ---- shapes
+-- ---- shapes and values
 
-some_bits : (a : Shape) (as_ : List Shape) → IsSmall a → 1 ≤ bits_sum (a ∷ as_)
-some_bits a as_ h = omega (arith, h.some)
+mutual
+  -- what the test of a term says of its parts
+  sound_parts : (n : ℕ) (t : Term) → is_sound n t ≡ true → HasAllParts (λ x. x < n) t
+  sound_parts n (Constant value a) e = tt
+  sound_parts n (Signal x) e = ltb-true x n e
+  sound_parts n (Unary o a) e = sound_parts n a e
+  sound_parts n (Binary o a b) e = let p = and_parts (is_sound n a) (is_sound n b) e in (sound_parts n a p.0, sound_parts n b p.1)
+  sound_parts n (Mux c a b) e =
+      let p = and_parts (is_sound n c) (is_sound n a && is_sound n b) e in
+      let q = and_parts (is_sound n a) (is_sound n b) p.1 in
+      (sound_parts n c p.0, (sound_parts n a q.0, sound_parts n b q.1))
+  sound_parts n (Cat parts) e = let p = and_parts (has_some parts) (are_sound n parts) e in (some_part parts p.0, all_sound n parts p.1)
+  sound_parts n (Replicate a count) e = sound_parts n a e
+  sound_parts n (Slice a low high) e = sound_parts n a e
+  sound_parts n (Pick items i) e =
+      let p = and_parts (has_some items) (are_sound n items && is_sound n i) e in
+      let q = and_parts (are_sound n items) (is_sound n i) p.1 in
+      (some_part items p.0, (all_sound n items q.0, sound_parts n i q.1))
+  sound_parts n (Fetch m width i) e = sound_parts n i e
 
-some_width : (some : Bool) (a : Shape) (as_ : List Shape) → IsSmall a → 1 ≤ widest some (a ∷ as_)
-some_width some a as_ h = omega (arith, h.some)
+  all_sound : (n : ℕ) (ts : Terms) → are_sound n ts ≡ true → HaveAllParts (λ x. x < n) ts
+  all_sound n NoTerm e = tt
+  all_sound n (MoreTerms t ts) e = let p = and_parts (is_sound n t) (are_sound n ts) e in (sound_parts n t p.0, all_sound n ts p.1)
 
-pub replicate_is_small : (a : Shape) (count : ℕ) → IsSmall a → replicate_fault a count ≡ None → IsSmall (unsigned (count * a.bits))
-replicate_is_small a count h e = let p = replicate_small a count h e in record { some = p.0; most = p.1 }
-
-pub slice_is_small : (a : Shape) (low high : ℕ) → IsSmall a → slice_fault a low high ≡ None → IsSmall (unsigned (high - low))
-slice_is_small a low high h e = let p = slice_inside a low high e in record { some = omega arith; most = omega (arith, h.most) }
-
-pub unary_small : (o : Op) (a : Shape) → IsSmall a → too_wide (unary_shape o a).bits ≡ None → IsSmall (unary_shape o a)
-unary_small o a h e = record { some = unary_some o a h.some; most = not_wide (unary_shape o a).bits e }
-
-pub mux_small : (a b : Shape) → IsSmall a → too_wide (joined a b).bits ≡ None → IsSmall (joined a b)
-mux_small a b h e = record { some = joined_some a b h; most = not_wide (joined a b).bits e }
+  some_part : (ts : Terms) → has_some ts ≡ true → IsSome ts
+  some_part NoTerm e = absurd (cc)
+  some_part (MoreTerms t ts) e = tt
 
 -- a term that keeps has 1 to 127 bits
-mutual
-  pub term_small : (s : Shapes) (n : ℕ) (t : Term) → AreSmall s n → TermKeeps s n t → IsSmall (shape_of s t)
-  term_small s n (Constant value a) h k = constant_small a k.fault
-  term_small s n (Signal x) h k = h x (signal_below s n x k)
-  term_small s n (Unary o a) h k = unary_small o (shape_of s a) (term_small s n a h (unary_of s n o a k)) (unary_own s n o a k)
-  term_small s n (Binary o a b) h k =
-      binary_small o (shape_of s a) (shape_of s b) (term_small s n a h (binary_left s n o a b k)) (term_small s n b h (binary_right s n o a b k)) (binary_own s n o a b k)
-  term_small s n (Mux c a b) h k = mux_small (shape_of s a) (shape_of s b) (term_small s n a h (mux_so s n c a b k)) (mux_own s n c a b k)
-  term_small s n (Cat parts) h k = record {
-    some = terms_bits s n parts h (cat_some s n parts k) (cat_parts s n parts k);
-    most = not_wide (bits_sum (shapes_of s parts)) (cat_own s n parts k);
-  }
-  term_small s n (Replicate a count) h k = replicate_is_small (shape_of s a) count (term_small s n a h (replicate_of s n a count k)) (replicate_own s n a count k)
-  term_small s n (Slice a low high) h k = slice_is_small (shape_of s a) low high (term_small s n a h (slice_of s n a low high k)) (slice_own s n a low high k)
-  term_small s n (Pick items i) h k = record {
-    some = terms_width s n (some_signed (shapes_of s items)) items h (pick_some s n items i k) (pick_items s n items i k);
-    most = not_wide (pick_shape (shapes_of s items)).bits (none_right (index_fault (shape_of s i)) (too_wide (pick_shape (shapes_of s items)).bits) (pick_own s n items i k));
-  }
-  term_small s n (Fetch m width i) h k = constant_small (unsigned width) (fetch_own s n m width i k)
+pub term_small : (s : Shapes) (n : ℕ) (t : Term) → AreSmall s n → TermKeeps s n t → IsSmall (shape_of s t)
+term_small s n t h k = tree_small (λ x. x < n) s h t (sound_parts n t k.sound) k.fault
 
-  terms_bits : (s : Shapes) (n : ℕ) (ts : Terms) → AreSmall s n → has_some ts ≡ true → TermsKeep s n ts → 1 ≤ bits_sum (shapes_of s ts)
-  terms_bits s n NoTerm h e k = absurd (cc)
-  terms_bits s n (MoreTerms t ts) h e k = some_bits (shape_of s t) (shapes_of s ts) (term_small s n t h (first_keeps s n t ts k))
-
-  terms_width : (s : Shapes) (n : ℕ) (some : Bool) (ts : Terms) → AreSmall s n → has_some ts ≡ true → TermsKeep s n ts → 1 ≤ widest some (shapes_of s ts)
-  terms_width s n some NoTerm h e k = absurd (cc)
-  terms_width s n some (MoreTerms t ts) h e k = some_width some (shape_of s t) (shapes_of s ts) (term_small s n t h (first_keeps s n t ts k))
-
-pub terms_small : (s : Shapes) (n : ℕ) (ts : Terms) → AreSmall s n → TermsKeep s n ts → EachTerm (λ t. IsSmall (shape_of s t)) ts
-terms_small s n NoTerm h k = tt
-terms_small s n (MoreTerms t ts) h k = (term_small s n t h (first_keeps s n t ts k), terms_small s n ts h (rest_keeps s n t ts k))
-
--- ---- values
-
-cat_below : (s : Shapes) (v : Values) (parts : Terms) → cat_pattern (shapes_of s parts) (values_of s v parts) < 2 ^ bits_sum (shapes_of s parts)
-cat_below s v NoTerm = omega arith
-cat_below s v (MoreTerms t ts) =
-    let a = shape_of s t in
-    let p = mul-add-lt (cat_pattern (shapes_of s ts) (values_of s v ts)) (2 ^ a.bits) (modulo (value_of s v t) (2 ^ a.bits)) (2 ^ bits_sum (shapes_of s ts)) (cat_below s v ts) (modulo-below (value_of s v t) (2 ^ a.bits) (pow_pos a.bits)) in
-    omega (arith, p, pow-add 2 a.bits (bits_sum (shapes_of s ts)))
-
--- a value of an item's shape fits the joined shape
-item_fits : (some : Bool) (w : ℕ) (a : Shape) (as_ : List Shape) (z : ℤ) → widest some (a ∷ as_) ≤ w → (some_signed (a ∷ as_) ≡ true → some ≡ true) → Fits a z → FitsBits w some z
-item_fits some w a as_ z h e f =
-    fits_wider (joined_bits some a) w some z (omega arith)
-    (fits_joined a.bits a.signed some z (λ g. e (or_left a.signed (some_signed as_) g)) f)
-
--- so does the value of the item that is chosen
-chosen_fits : (s : Shapes) (v : Values) (some : Bool) (w : ℕ) (items : Terms) (z : ℤ) (m : ℕ) → FitsBits w some z → widest some (shapes_of s items) ≤ w → (some_signed (shapes_of s items) ≡ true → some ≡ true) → EachTerm (λ t. Fits (shape_of s t) (value_of s v t)) items → FitsBits w some (nth_or_last z (values_of s v items) m)
-chosen_fits s v some w NoTerm z m f h e k = f
-chosen_fits s v some w (MoreTerms t ts) z zero f h e k = item_fits some w (shape_of s t) (shapes_of s ts) (value_of s v t) h e k.0
-chosen_fits s v some w (MoreTerms t ts) z (suc m) f h e k =
-    chosen_fits s v some w ts (value_of s v t) m
-    (item_fits some w (shape_of s t) (shapes_of s ts) (value_of s v t) h e k.0)
-    (omega arith)
-    (λ g. e (or_right (shape_of s t).signed (some_signed (shapes_of s ts)) g))
-    k.1
-
--- the value of a term that keeps fits its shape
-mutual
-  pub term_fits : (s : Shapes) (n : ℕ) (v : Values) (t : Term) → AreSmall s n → AreFit s n v → TermKeeps s n t → Fits (shape_of s t) (value_of s v t)
-  term_fits s n v (Constant value a) h f k = FitsBits-wrap_bits a.bits a.signed value (constant_small a k.fault).some
-  term_fits s n v (Signal x) h f k = f x (signal_below s n x k)
-  term_fits s n v (Unary o a) h f k =
-      unary_fits o (shape_of s a) (value_of s v a) (term_small s n a h (unary_of s n o a k)).some (term_fits s n v a h f (unary_of s n o a k))
-  term_fits s n v (Binary o a b) h f k =
-      let l = binary_left s n o a b k in
-      let r = binary_right s n o a b k in
-      binary_fits o (shape_of s a) (shape_of s b) (value_of s v a) (value_of s v b) (term_small s n a h l) (term_small s n b h r) (binary_own s n o a b k)
-      (term_fits s n v a h f l) (term_fits s n v b h f r)
-  term_fits s n v (Mux c a b) h f k =
-      fits_mux (shape_of s a) (shape_of s b) (value_of s v c) (value_of s v a) (value_of s v b)
-      (term_fits s n v a h f (mux_so s n c a b k)) (term_fits s n v b h f (mux_other s n c a b k))
-  term_fits s n v (Cat parts) h f k = fits_pos (bits_sum (shapes_of s parts)) (cat_pattern (shapes_of s parts) (values_of s v parts)) (cat_below s v parts)
-  term_fits s n v (Replicate a count) h f k = fits_copies (shape_of s a) count (value_of s v a)
-  term_fits s n v (Slice a low high) h f k = fits_field (value_of s v a) low (high - low)
-  term_fits s n v (Pick items i) h f k =
-      let some = some_signed (shapes_of s items) in
-      let w = widest some (shapes_of s items) in
-      chosen_fits s v some w items (pos 0) (count_of (value_of s v i)) (fits_zero w some) (omega arith) (λ g. g) (terms_fit s n v items h f (pick_items s n items i k))
-  term_fits s n v (Fetch m width i) h f k = FitsBits-wrap_bits width false (v (Word m (count_of (value_of s v i)))) (constant_small (unsigned width) (fetch_own s n m width i k)).some
-
-  pub terms_fit : (s : Shapes) (n : ℕ) (v : Values) (ts : Terms) → AreSmall s n → AreFit s n v → TermsKeep s n ts → EachTerm (λ t. Fits (shape_of s t) (value_of s v t)) ts
-  terms_fit s n v NoTerm h f k = tt
-  terms_fit s n v (MoreTerms t ts) h f k = (term_fits s n v t h f (first_keeps s n t ts k), terms_fit s n v ts h f (rest_keeps s n t ts k))
+-- its value fits its shape
+pub term_fits : (s : Shapes) (n : ℕ) (v : Values) (t : Term) → AreSmall s n → AreFit s n v → TermKeeps s n t → Fits (shape_of s t) (value_of s v t)
+term_fits s n v t h f k = tree_fits (λ x. x < n) s v h f t (sound_parts n t k.sound) k.fault
