@@ -11,6 +11,3 @@ pub use calls::{Console, Fail, Failed, LoadFault, Pair, Sink, Source};
 pub use consoles::{MemConsole, NullConsole};
 pub use sinks::{MemSink, NullSink};
 pub use sources::{MemSource, SureSource, have_distinct_names};
-
-#[cfg(test)]
-mod tests;

@@ -3,8 +3,6 @@
 
 mod machine;
 pub mod reading;
-#[cfg(test)]
-mod tests;
 pub mod tree;
 
 pub use reading::read;

@@ -8,6 +8,3 @@ pub mod texts;
 pub use faults::{Fault, Kind, LimitKind, MAX_BYTES, Refusal, fault_line};
 pub use lists::{List, NoMemory, Word};
 pub use texts::Text;
-
-#[cfg(test)]
-mod tests;

@@ -48,20 +48,3 @@ impl Budget {
         true
     }
 }
-
-#[cfg(test)]
-mod tests {
-    use super::*;
-
-    #[test]
-    fn spends_a_million_units(rt: HostRuntime) {
-        let mut budget = Budget::new();
-        assert!(rt; budget.spend(0));
-        assert!(rt; budget.spend(999_999));
-        assert!(rt; !budget.spend(2));
-        assert!(rt; !budget.spend(u64::MAX));
-        assert!(rt; budget.spend(1));
-        assert!(rt; budget.spend(0));
-        assert!(rt; !budget.spend(1));
-    }
-}
