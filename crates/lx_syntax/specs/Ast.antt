@@ -1,5 +1,5 @@
 -- The syntax of a description: what the nodes of its tree say. Each form has the line on which it begins.
-use Rattle.std.specs.Prelude.{ℕ, Bool, List}
+use Rattle.std.specs.Prelude.{ℕ, ℤ, Bool, List, Option}
 use Rattle.lx_syntax.specs.declared.forms.Operator.{Operator}
 use Rattle.lx_syntax.specs.declared.forms.Comparison.{Comparison}
 use Rattle.lx_syntax.specs.declared.forms.Prefix.{Prefix}
@@ -13,7 +13,8 @@ pub record Sign : Type 0 where
 mutual
   pub data Expr : Type 0 where
     Name : (line : ℕ) (name : List ℕ) → Expr
-    Number : (line value : ℕ) → Expr
+    -- its value, where it may be written
+    Number : (line : ℕ) (value : Option ℤ) → Expr
     -- what a text stands for
     Quoted : (line : ℕ) (bytes : List ℕ) → Expr
     Nothing : (line : ℕ) → Expr
@@ -23,7 +24,7 @@ mutual
     -- an item for each of a source's whose filter holds, where there is one
     Comprehension : (line : ℕ) (item : Expr) (names : List (List ℕ)) (source : Expr) (filter : Exprs) → Expr
     Dictionary : (line : ℕ) (pairs : Pairs) → Expr
-    -- `value if condition else value if condition else ..`
+    -- `value if condition else value if condition else ..`: each conditional begins at its first value
     Choice : (line : ℕ) (value : Expr) (rest : Choices) → Expr
     -- chains of `or` and of `and`
     Either : (line : ℕ) (parts : Exprs) → Expr
@@ -51,7 +52,7 @@ mutual
 
   pub data Choices : Type 0 where
     no_choice : Choices
-    choice : (condition value : Expr) → Choices → Choices
+    choice : (line : ℕ) (condition value : Expr) → Choices → Choices
 
   pub data Links : Type 0 where
     no_link : Links
@@ -100,11 +101,16 @@ pub record Param : Type 0 where
   pub name : List ℕ
   pub default : Exprs
 
+-- a base of a class, and its line
+pub record Base : Type 0 where
+  pub line : ℕ
+  pub name : List ℕ
+
 -- a class: its line, name and bases, and its `__init__`, whose first parameter is `self`
 pub record Class : Type 0 where
   pub line : ℕ
   pub name : List ℕ
-  pub bases : List (List ℕ)
+  pub bases : List Base
   pub init_line : ℕ
   pub params : List Param
   pub body : Stmts

@@ -46,10 +46,13 @@ init_of end = NoTree
 init_of (token x ps) = init_of ps
 init_of (child t ps) = t
 
+abbrev pub base_of : List ℕ → Token → ast.Base
+base_of src x = record { line = x.line; name = text_of src x }
+
 -- a class by its name, the names in its brackets, and its `__init__`
 abbrev pub class_with : List ℕ → ℕ → List Token → Tree → List Class
 class_with src line [] init = []
-class_with src line (name ∷ bases) init = record { line = line; name = text_of src name; bases = map (text_of src) bases; init_line = line_of init; params = params_of src init; body = block_of src init } ∷ []
+class_with src line (name ∷ bases) init = record { line = line; name = text_of src name; bases = map (base_of src) bases; init_line = line_of init; params = params_of src init; body = block_of src init } ∷ []
 
 -- imports and texts say nothing
 unfoldable pub class_of : List ℕ → Tree → List Class

@@ -1,7 +1,7 @@
 -- What a tree of the grammar says. Every tree says something: one that the grammar derives is never misshapen.
 use Rattle.std.specs.Prelude.{ℕ, Bool, true, false, List, [], ◌∷◌, Option, Some, None, map, if◌then◌else◌}
 use Rattle.lx_token.specs.declared.tokens.Token.{Token}
-use Rattle.lx_token.specs.Numbers.{number_value}
+use Rattle.lx_token.specs.Numbers.{whole_number}
 use Rattle.lx_token.specs.Meanings.{quoted_bytes}
 use Rattle.lx_grammar.specs.declared.grammar.Rule.{Rule}
 use Rattle.lx_grammar.specs.declared.grammar.Rule.TheVariants as rule
@@ -34,6 +34,12 @@ unfoldable mutual
   line_of_parts end = 0
   line_of_parts (token x ps) = x.line
   line_of_parts (child t ps) = line_of t
+
+-- the lines of the nodes among parts
+unfoldable pub lines : Parts → List ℕ
+lines end = []
+lines (token x ps) = lines ps
+lines (child t ps) = line_of t ∷ lines ps
 
 -- ---- operators
 
@@ -93,7 +99,7 @@ unfoldable pub leaf : List ℕ → Token → Sign → Expr
 leaf src x sign.Name = ast.Name x.line (text_of src x)
 leaf src x sign.Init = ast.Name x.line (text_of src x)
 leaf src x sign.SelfName = ast.Name x.line (text_of src x)
-leaf src x sign.Number = ast.Number x.line (number_value (text_of src x))
+leaf src x sign.Number = ast.Number x.line (whole_number (text_of src x))
 leaf src x sign.Text = ast.Quoted x.line (quoted_bytes (text_of src x))
 leaf src x sign.None = ast.Nothing x.line
 leaf src x sign.True = ast.Truth x.line true
@@ -114,30 +120,32 @@ signs src (x ∷ xs) = with_sign x.line (prefix_of (sign_of src x)) (signs src x
 abbrev pub token_line : Token → ℕ
 token_line x = x.line
 
-unfoldable pub sole : Exprs → Expr
-sole (ast.more e ast.none) = e
-sole _ = ast.Misshapen
+-- what is said of one node alone
+unfoldable pub alone : (Expr → Expr) → Exprs → Expr
+alone say (ast.more e ast.none) = say e
+alone say _ = ast.Misshapen
 
-unfoldable pub negated : List Token → Exprs → Expr
-negated words (ast.more e ast.none) = ast.Not (map token_line words) e
-negated words _ = ast.Misshapen
+unfoldable pub of_two : (Expr → Expr → Expr) → Exprs → Expr
+of_two say (ast.more left (ast.more right ast.none)) = say left right
+of_two say _ = ast.Misshapen
 
 unfoldable pub prefixed : Option (List ast.Sign) → Exprs → Expr
-prefixed (Some signs) (ast.more e ast.none) = ast.Prefixed signs e
-prefixed _ _ = ast.Misshapen
+prefixed None es = ast.Misshapen
+prefixed (Some signs) es = alone (ast.Prefixed signs) es
+
+-- conditions and what else is chosen, where the conditional begins on this line, and the nodes on those
+unfoldable pub choices_of : ℕ → List ℕ → Exprs → Choices
+choices_of line (l ∷ m ∷ ls) (ast.more condition (ast.more value es)) = ast.choice line condition value (choices_of m ls es)
+choices_of line _ _ = ast.no_choice
+
+unfoldable pub choice : ℕ → List ℕ → Exprs → Expr
+choice line (l ∷ ls) (ast.more value es) = ast.Choice line value (choices_of line ls es)
+choice line _ _ = ast.Misshapen
 
 -- in twos
-unfoldable pub choices_of : Exprs → Choices
-choices_of (ast.more condition (ast.more value es)) = ast.choice condition value (choices_of es)
-choices_of _ = ast.no_choice
-
 unfoldable pub pairs_of : Exprs → Pairs
 pairs_of (ast.more key (ast.more value es)) = ast.pair key value (pairs_of es)
 pairs_of _ = ast.no_pair
-
-unfoldable pub choice : ℕ → Exprs → Expr
-choice line ast.none = ast.Misshapen
-choice line (ast.more value es) = ast.Choice line value (choices_of es)
 
 unfoldable pub compared : ℕ → Option Comparison → Expr → Expr → Expr
 compared line None left right = ast.Misshapen
@@ -145,10 +153,10 @@ compared line (Some by_) left right = ast.Compare line by_ left right
 
 -- `is None` is two tokens, `is not None` three
 unfoldable pub related : List ℕ → List Token → ℕ → Exprs → Expr
-related src (x ∷ []) line (ast.more left (ast.more right ast.none)) = compared line (comparison_of (sign_of src x)) left right
-related src (x ∷ y ∷ []) line (ast.more e ast.none) = ast.IsNothing line false e
-related src (x ∷ y ∷ z ∷ []) line (ast.more e ast.none) = ast.IsNothing line true e
-related src _ line _ = ast.Misshapen
+related src (x ∷ []) line es = of_two (compared line (comparison_of (sign_of src x))) es
+related src (x ∷ y ∷ []) line es = alone (ast.IsNothing line false) es
+related src (x ∷ y ∷ z ∷ []) line es = alone (ast.IsNothing line true) es
+related src _ line es = ast.Misshapen
 
 unfoldable pub with_link : Option Operator → Expr → Option Links → Option Links
 with_link None e rest = None
@@ -169,17 +177,12 @@ unfoldable pub chain : List ℕ → List Token → ℕ → Exprs → Expr
 chain src xs line ast.none = ast.Misshapen
 chain src xs line (ast.more first es) = linked line first (links src xs es)
 
-unfoldable pub powered : ℕ → Exprs → Expr
-powered line (ast.more base (ast.more exponent ast.none)) = ast.Power line base exponent
-powered line _ = ast.Misshapen
-
--- what a node says whose tokens, line and nodes are these, where it is no atom and has no trailers
+-- what a node says whose tokens, line and nodes are these, where it is no atom, conditional and has no trailers
 unfoldable pub flat : List ℕ → Rule → List Token → ℕ → Exprs → Expr
 flat src rule.Values xs line es = ast.Tuple line es
-flat src rule.Expr xs line es = choice line es
 flat src rule.Or xs line es = ast.Either line es
 flat src rule.And xs line es = ast.Both line es
-flat src rule.Not xs line es = negated xs es
+flat src rule.Not xs line es = alone (ast.Not (map token_line xs)) es
 flat src rule.Comp xs line es = related src xs line es
 flat src rule.Bor xs line es = chain src xs line es
 flat src rule.Bxor xs line es = chain src xs line es
@@ -188,9 +191,9 @@ flat src rule.Shift xs line es = chain src xs line es
 flat src rule.Sum xs line es = chain src xs line es
 flat src rule.Term xs line es = chain src xs line es
 flat src rule.Unary xs line es = prefixed (signs src xs) es
-flat src rule.Power xs line es = powered line es
+flat src rule.Power xs line es = of_two (ast.Power line) es
 -- what an argument's sign or name stands before
-flat src rule.Arg xs line es = sole es
+flat src rule.Arg xs line es = alone (λ e. e) es
 flat src _ xs line es = ast.Misshapen
 
 -- a source, and a filter where there is one
@@ -251,6 +254,7 @@ unfoldable mutual
   expr src NoTree = ast.Misshapen
   expr src (Grown rule.Post ps) = post src ps
   expr src (Grown rule.Atom ps) = atom src ps
+  expr src (Grown rule.Expr ps) = choice (line_of_parts ps) (lines ps) (exprs src ps)
   expr src (Grown r ps) = flat src r (tokens ps) (line_of_parts ps) (exprs src ps)
 
   pub post : List ℕ → Parts → Expr
@@ -298,6 +302,10 @@ unfoldable mutual
   bounds src (Grown rule.Sub (token x (child u end))) inner = ast.slice ast.none (ast.more (expr src u) ast.none)
   bounds src (Grown rule.Sub (child t (token x (child u end)))) inner = ast.slice (ast.more (expr src t) ast.none) (ast.more (expr src u) ast.none)
   bounds src t inner = ast.item inner
+
+-- what a conditional says
+unfoldable pub chosen : List ℕ → Parts → Expr
+chosen src ps = choice (line_of_parts ps) (lines ps) (exprs src ps)
 
 -- ---- statements
 

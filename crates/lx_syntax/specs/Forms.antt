@@ -2,15 +2,20 @@
 use Rattle.std.specs.Prelude.{ℕ, Bool, true, List, [], ◌∷◌, Option, Some, None, map, ◌++◌, ◌&&◌, ◌<◌, nat_lt}
 use Rattle.lx_arena.specs.declared.Id.{Id}
 use Rattle.lx_arena.specs.Folds.{fold_at}
-use Rattle.lx_token.specs.Numbers.{number_value}
 use Rattle.lx_token.specs.Meanings.{quoted_bytes}
 use Rattle.lx_pytree.specs.declared.tree.PyNodes.{PyNodes}
 use Rattle.lx_syntax.specs.declared.forms.Argument.{Argument}
 use Rattle.lx_syntax.specs.declared.forms.Argument.TheVariants as argument
 use Rattle.lx_syntax.specs.declared.forms.Branch.{Branch}
+use Rattle.lx_syntax.specs.declared.forms.Branching.{Branching}
+use Rattle.lx_syntax.specs.declared.forms.ClassForm.{ClassForm}
 use Rattle.lx_syntax.specs.declared.forms.Couple.{Couple}
-use Rattle.lx_syntax.specs.declared.forms.Form.{Form}
-use Rattle.lx_syntax.specs.declared.forms.Form.TheVariants as form
+use Rattle.lx_syntax.specs.declared.forms.ExprForm.{ExprForm}
+use Rattle.lx_syntax.specs.declared.forms.ExprForm.TheVariants as form
+use Rattle.lx_syntax.specs.declared.forms.Parameter.{Parameter}
+use Rattle.lx_syntax.specs.declared.forms.Program.{Program}
+use Rattle.lx_syntax.specs.declared.forms.StmtForm.{StmtForm}
+use Rattle.lx_syntax.specs.declared.forms.StmtForm.TheVariants as form_of
 use Rattle.lx_syntax.specs.declared.forms.Link.{Link}
 use Rattle.lx_syntax.specs.declared.forms.Node.{Node}
 use Rattle.lx_syntax.specs.declared.forms.Place.{Place}
@@ -20,6 +25,7 @@ use Rattle.lx_syntax.specs.declared.forms.Trailer.{Trailer}
 use Rattle.lx_syntax.specs.declared.forms.Trailer.TheVariants as trailer
 use Rattle.lx_syntax.specs.Ast as ast
 use Rattle.lx_syntax.specs.Ast.{Expr, Exprs, Pairs, Choices, Links, Trailers, Arguments, Stmt, Stmts, Branches}
+use Rattle.lx_syntax.specs.Classes.{base_of}
 use Rattle.lx_syntax.specs.Convert.{text_of, token_line}
 
 abbrev pub Exprs_at : Type 0
@@ -37,9 +43,9 @@ unfoldable pub pairs_at : Exprs_at → List Couple → Pairs
 pairs_at f [] = ast.no_pair
 pairs_at f (c ∷ cs) = ast.pair (f c.first.place) (f c.second.place) (pairs_at f cs)
 
-unfoldable pub choices_at : Exprs_at → List Couple → Choices
+unfoldable pub choices_at : Exprs_at → List Branching → Choices
 choices_at f [] = ast.no_choice
-choices_at f (c ∷ cs) = ast.choice (f c.first.place) (f c.second.place) (choices_at f cs)
+choices_at f (c ∷ cs) = ast.choice c.line (f c.condition.place) (f c.value.place) (choices_at f cs)
 
 unfoldable pub links_at : Exprs_at → List Link → Links
 links_at f [] = ast.no_link
@@ -69,10 +75,10 @@ abbrev pub signed : Signed → ast.Sign
 signed s = record { line = s.line; prefix = s.prefix }
 
 -- as an expression
-unfoldable pub expr_form : List ℕ → Exprs_at → ℕ → Form → Expr
+unfoldable pub expr_form : List ℕ → Exprs_at → ℕ → ExprForm → Expr
 expr_form src f line (form.Same id) = f id.place
 expr_form src f line (form.Name x) = ast.Name line (text_of src x)
-expr_form src f line (form.Number x) = ast.Number line (number_value (text_of src x))
+expr_form src f line (form.Number value) = ast.Number line value
 expr_form src f line (form.Quoted x) = ast.Quoted line (quoted_bytes (text_of src x))
 expr_form src f line form.Nothing = ast.Nothing line
 expr_form src f line (form.Truth holds) = ast.Truth line holds
@@ -90,7 +96,7 @@ expr_form src f line (form.Chain first rest) = ast.Chain line (f first.place) (l
 expr_form src f line (form.Prefixed signs of) = ast.Prefixed (map signed signs) (f of.place)
 expr_form src f line (form.Power base exponent) = ast.Power line (f base.place) (f exponent.place)
 expr_form src f line (form.Post of trailers) = ast.Post line (f of.place) (trailers_at src f trailers)
-expr_form src f line _ = ast.Misshapen
+expr_form src f line form.Misshapen = ast.Misshapen
 
 abbrev pub place_at : List ℕ → Exprs_at → Place → ast.Place
 place_at src f (place.Name x) = ast.Named (text_of src x)
@@ -105,14 +111,14 @@ branches_at f g [] = ast.no_branch
 branches_at f g (b ∷ bs) = ast.branch (f b.condition.place) (block_at g b.body) (branches_at f g bs)
 
 -- as a statement
-unfoldable pub stmt_form : List ℕ → Exprs_at → (ℕ → Stmt) → ℕ → Form → Stmt
-stmt_form src f g line form.Pass = ast.Pass line
-stmt_form src f g line (form.Value id) = ast.Value line (f id.place)
-stmt_form src f g line (form.Bind place value) = ast.Bind line (place_at src f place) (f value.place)
-stmt_form src f g line (form.Add place value) = ast.Add line (place_at src f place) (f value.place)
-stmt_form src f g line (form.If branches rest) = ast.If line (branches_at f g branches) (block_at g rest)
-stmt_form src f g line (form.For names source body) = ast.For line (map (text_of src) names) (f source.place) (block_at g body)
-stmt_form src f g line _ = ast.NoStmt
+unfoldable pub stmt_form : List ℕ → Exprs_at → (ℕ → Stmt) → ℕ → StmtForm → Stmt
+stmt_form src f g line form_of.Pass = ast.Pass line
+stmt_form src f g line (form_of.Value id) = ast.Value line (f id.place)
+stmt_form src f g line (form_of.Bind place value) = ast.Bind line (place_at src f place) (f value.place)
+stmt_form src f g line (form_of.Add place value) = ast.Add line (place_at src f place) (f value.place)
+stmt_form src f g line (form_of.If branches rest) = ast.If line (branches_at f g branches) (block_at g rest)
+stmt_form src f g line (form_of.For names source body) = ast.For line (map (text_of src) names) (f source.place) (block_at g body)
+stmt_form src f g line form_of.NoStmt = ast.NoStmt
 
 -- ---- the ids in a form, in the order of the text
 
@@ -122,6 +128,10 @@ Ids = List (Id PyNodes)
 unfoldable pub couple_ids : List Couple → Ids
 couple_ids [] = []
 couple_ids (c ∷ cs) = c.first ∷ c.second ∷ couple_ids cs
+
+unfoldable pub branching_ids : List Branching → Ids
+branching_ids [] = []
+branching_ids (c ∷ cs) = c.condition ∷ c.value ∷ branching_ids cs
 
 unfoldable pub link_ids : List Link → Ids
 link_ids [] = []
@@ -158,28 +168,44 @@ unfoldable pub branches_ids : List Branch → Ids
 branches_ids [] = []
 branches_ids (b ∷ bs) = (b.condition ∷ b.body) ++ branches_ids bs
 
-unfoldable pub form_ids : Form → Ids
-form_ids (form.Same id) = id ∷ []
-form_ids (form.Tuple ids) = ids
-form_ids (form.Listed ids) = ids
-form_ids (form.Comprehension item names source filter) = item ∷ source ∷ option_ids filter []
-form_ids (form.Dictionary pairs) = couple_ids pairs
-form_ids (form.Choice value rest) = value ∷ couple_ids rest
-form_ids (form.Either ids) = ids
-form_ids (form.Both ids) = ids
-form_ids (form.Not words of) = of ∷ []
-form_ids (form.Compare by_ left right) = left ∷ right ∷ []
-form_ids (form.IsNothing negated of) = of ∷ []
-form_ids (form.Chain first rest) = first ∷ link_ids rest
-form_ids (form.Prefixed signs of) = of ∷ []
-form_ids (form.Power base exponent) = base ∷ exponent ∷ []
-form_ids (form.Post of trailers) = of ∷ trailers_ids trailers
-form_ids (form.Value id) = id ∷ []
-form_ids (form.Bind place value) = place_ids place (value ∷ [])
-form_ids (form.Add place value) = place_ids place (value ∷ [])
-form_ids (form.If branches rest) = branches_ids branches ++ rest
-form_ids (form.For names source body) = source ∷ body
-form_ids _ = []
+unfoldable pub expr_ids : ExprForm → Ids
+expr_ids (form.Same id) = id ∷ []
+expr_ids (form.Tuple ids) = ids
+expr_ids (form.Listed ids) = ids
+expr_ids (form.Comprehension item names source filter) = item ∷ source ∷ option_ids filter []
+expr_ids (form.Dictionary pairs) = couple_ids pairs
+expr_ids (form.Choice value rest) = value ∷ branching_ids rest
+expr_ids (form.Either ids) = ids
+expr_ids (form.Both ids) = ids
+expr_ids (form.Not words of) = of ∷ []
+expr_ids (form.Compare by_ left right) = left ∷ right ∷ []
+expr_ids (form.IsNothing negated of) = of ∷ []
+expr_ids (form.Chain first rest) = first ∷ link_ids rest
+expr_ids (form.Prefixed signs of) = of ∷ []
+expr_ids (form.Power base exponent) = base ∷ exponent ∷ []
+expr_ids (form.Post of trailers) = of ∷ trailers_ids trailers
+expr_ids form.Misshapen = []
+expr_ids (form.Name x) = []
+expr_ids (form.Number value) = []
+expr_ids (form.Quoted x) = []
+expr_ids form.Nothing = []
+expr_ids (form.Truth holds) = []
+
+unfoldable pub stmt_ids : StmtForm → Ids
+stmt_ids form_of.NoStmt = []
+stmt_ids form_of.Pass = []
+stmt_ids (form_of.Value id) = id ∷ []
+stmt_ids (form_of.Bind place value) = place_ids place (value ∷ [])
+stmt_ids (form_of.Add place value) = place_ids place (value ∷ [])
+stmt_ids (form_of.If branches rest) = branches_ids branches ++ rest
+stmt_ids (form_of.For names source body) = source ∷ body
+
+unfoldable pub param_ids : List Parameter → Ids
+param_ids [] = []
+param_ids (p ∷ ps) = option_ids p.default (param_ids ps)
+
+abbrev pub class_ids : ClassForm → Ids
+class_ids c = param_ids c.params ++ c.body
 
 -- ids lower than n
 unfoldable pub Lower : ℕ → Ids → Type 0
@@ -190,19 +216,44 @@ unfoldable pub ids_below : ℕ → Ids → Bool
 ids_below n [] = true
 ids_below n (id ∷ ids) = nat_lt id.place n && ids_below n ids
 
-abbrev pub node_below : Node → ℕ → Bool
-node_below node n = ids_below n (form_ids node.form)
+-- the parts of a node, as an expression and as a statement
+abbrev pub node_ids : Node → Ids
+node_ids node = expr_ids node.expr ++ stmt_ids node.stmt
 
--- ---- what the nodes of an arena say
+abbrev pub node_below : Node → ℕ → Bool
+node_below node n = ids_below n (node_ids node)
+
+-- ---- what the nodes at places say
 
 abbrev pub expr_level : List ℕ → Exprs_at → Node → Expr
-expr_level src f node = expr_form src f node.line node.form
+expr_level src f node = expr_form src f node.line node.expr
 
 unfoldable pub expr_at : List ℕ → List Node → Exprs_at
 expr_at src nodes k = fold_at ast.Misshapen (expr_level src) nodes k
 
 abbrev pub stmt_level : List ℕ → Exprs_at → (ℕ → Stmt) → Node → Stmt
-stmt_level src f g node = stmt_form src f g node.line node.form
+stmt_level src f g node = stmt_form src f g node.line node.stmt
 
 unfoldable pub stmt_at : List ℕ → List Node → ℕ → Stmt
 stmt_at src nodes k = fold_at ast.NoStmt (stmt_level src (expr_at src nodes)) nodes k
+
+-- ---- what classes say
+
+abbrev pub param_at : List ℕ → Exprs_at → Parameter → ast.Param
+param_at src f p = record { name = text_of src p.name; default = bound_at f p.default }
+
+abbrev pub class_form : List ℕ → Exprs_at → (ℕ → Stmt) → ClassForm → ast.Class
+class_form src f g c = record { line = c.line; name = text_of src c.name; bases = map (base_of src) c.bases; init_line = c.init_line; params = map (param_at src f) c.params; body = block_at g c.body }
+
+abbrev pub expr_of : Program → Exprs_at
+expr_of p k = expr_at p.src p.nodes k
+
+abbrev pub stmt_of : Program → ℕ → Stmt
+stmt_of p k = stmt_at p.src p.nodes k
+
+abbrev pub class_of : Program → ClassForm → ast.Class
+class_of p c = class_form p.src (expr_of p) (stmt_of p) c
+
+-- the classes of a file
+abbrev pub classes_of : Program → List ast.Class
+classes_of p = map (class_of p) p.classes

@@ -1,5 +1,6 @@
 pub mod Ast
-pub mod Classes
 pub mod Convert
+pub mod Classes
 pub mod Forms
+pub mod Programs
 pub mod Worked

@@ -1,5 +1,5 @@
 -- What trees say, for each form that a description has. The names of the rows are what is said.
-use Rattle.std.specs.Prelude.{ℕ, true, false, [], ◌∷◌, ◌≡◌, codes}
+use Rattle.std.specs.Prelude.{ℕ, true, false, [], ◌∷◌, ◌≡◌, codes, pos, Some}
 use Rattle.lx_token.specs.declared.tokens.Token.{Token}
 use Rattle.lx_token.specs.declared.tokens.TokenKind.TheVariants as kind
 use Rattle.lx_grammar.specs.declared.grammar.Rule.TheVariants as rule
@@ -15,6 +15,10 @@ use Rattle.lx_syntax.specs.Classes.{classes}
 -- tokens of the first line, from a byte up to another
 abbrev pub name : ℕ → ℕ → Token
 name a b = record { kind = kind.Name; start = a; end = b; line = 1 }
+
+-- a name on the second line
+abbrev pub name_below : ℕ → ℕ → Token
+name_below a b = record { kind = kind.Name; start = a; end = b; line = 2 }
 
 abbrev pub keyword : ℕ → ℕ → Token
 keyword a b = record { kind = kind.Keyword; start = a; end = b; line = 1 }
@@ -39,7 +43,7 @@ pub record ExpressionsAreWorked : Type 0 where
   -- a name
   pub a_name : expr (codes "a") (Grown rule.Atom (token (name 0 1) end)) ≡ ast.Name 1 (codes "a")
   -- a number
-  pub a_number : expr (codes "0x1F") (Grown rule.Atom (token (digits 0 4) end)) ≡ ast.Number 1 31
+  pub a_number : expr (codes "0x1F") (Grown rule.Atom (token (digits 0 4) end)) ≡ ast.Number 1 (Some (pos 31))
   -- a text
   pub a_text : expr (codes "'a\\n'") (Grown rule.Atom (token (quoted 0 5) end)) ≡ ast.Quoted 1 (97 ∷ 10 ∷ [])
   -- `None`
@@ -71,7 +75,9 @@ pub record ExpressionsAreWorked : Type 0 where
   -- an empty dictionary
   pub no_pairs : expr (codes "{}") (Grown rule.Atom (token (sign_at 0 1) (token (sign_at 1 2) end))) ≡ ast.Dictionary 1 ast.no_pair
   -- a conditional
-  pub conditional : expr (codes "a if b else c") (Grown rule.Expr (child (Grown rule.Atom (token (name 0 1) end)) (token (keyword 2 4) (child (Grown rule.Atom (token (name 5 6) end)) (token (keyword 7 11) (child (Grown rule.Atom (token (name 12 13) end)) end)))))) ≡ ast.Choice 1 (ast.Name 1 (codes "a")) (ast.choice (ast.Name 1 (codes "b")) (ast.Name 1 (codes "c")) ast.no_choice)
+  pub conditional : expr (codes "a if b else c") (Grown rule.Expr (child (Grown rule.Atom (token (name 0 1) end)) (token (keyword 2 4) (child (Grown rule.Atom (token (name 5 6) end)) (token (keyword 7 11) (child (Grown rule.Atom (token (name 12 13) end)) end)))))) ≡ ast.Choice 1 (ast.Name 1 (codes "a")) (ast.choice 1 (ast.Name 1 (codes "b")) (ast.Name 1 (codes "c")) ast.no_choice)
+  -- a later conditional begins at its own first value
+  pub later_conditional : expr (codes "a if b else c if d else e") (Grown rule.Expr (child (Grown rule.Atom (token (name 0 1) end)) (token (keyword 2 4) (child (Grown rule.Atom (token (name 5 6) end)) (token (keyword 7 11) (child (Grown rule.Atom (token (name_below 12 13) end)) (token (keyword 14 16) (child (Grown rule.Atom (token (name 17 18) end)) (token (keyword 19 23) (child (Grown rule.Atom (token (name 24 25) end)) end)))))))))) ≡ ast.Choice 1 (ast.Name 1 (codes "a")) (ast.choice 1 (ast.Name 1 (codes "b")) (ast.Name 2 (codes "c")) (ast.choice 2 (ast.Name 1 (codes "d")) (ast.Name 1 (codes "e")) ast.no_choice))
   -- `or`
   pub either : expr (codes "a or b") (Grown rule.Or (child (Grown rule.Atom (token (name 0 1) end)) (token (keyword 2 4) (child (Grown rule.Atom (token (name 5 6) end)) end)))) ≡ ast.Either 1 (ast.more (ast.Name 1 (codes "a")) (ast.more (ast.Name 1 (codes "b")) ast.none))
   -- `and`
@@ -163,4 +169,4 @@ pub record StatementsAreWorked : Type 0 where
   -- a `for` over a block of two lines
   pub a_for : stmt (codes "for a, b in c: d e") (Grown rule.For (token (keyword 0 3) (child (Grown rule.Names (token (name 4 5) (token (sign_at 5 6) (token (name 7 8) end)))) (token (keyword 9 11) (child (Grown rule.Atom (token (name 12 13) end)) (token (sign_at 13 14) (child (Grown rule.Suite (token (newline 14 14) (token (newline 14 14) (child (Grown rule.Simple (child (Grown rule.Atom (token (name 15 16) end)) (token (newline 16 16) end))) (child (Grown rule.Simple (child (Grown rule.Atom (token (name 17 18) end)) (token (newline 18 18) end))) (token (newline 18 18) end)))))) end))))))) ≡ ast.For 1 (codes "a" ∷ codes "b" ∷ []) (ast.Name 1 (codes "c")) (ast.then_ (ast.Value 1 (ast.Name 1 (codes "d"))) (ast.then_ (ast.Value 1 (ast.Name 1 (codes "e"))) ast.done))
   -- a class whose `__init__` has a default, behind an import
-  pub a_class : classes (codes "import m class C(B, D): def __init__(self, x, y=z): pass") (Grown rule.File (child (Grown rule.Import (token (keyword 0 6) (child (Grown rule.Dotted (token (name 7 8) end)) (token (newline 8 8) end)))) (child (Grown rule.Class (token (keyword 9 14) (token (name 15 16) (token (sign_at 16 17) (token (name 17 18) (token (sign_at 18 19) (token (name 20 21) (token (sign_at 21 22) (token (sign_at 22 23) (token (newline 23 23) (token (newline 23 23) (child (Grown rule.Init (token (keyword 24 27) (token (name 28 36) (token (sign_at 36 37) (token (name 37 41) (token (sign_at 41 42) (token (name 43 44) (token (sign_at 44 45) (token (name 46 47) (token (sign_at 47 48) (child (Grown rule.Atom (token (name 48 49) end)) (token (sign_at 49 50) (token (sign_at 50 51) (child (Grown rule.Simple (token (keyword 52 56) (token (newline 56 56) end))) end)))))))))))))) (token (newline 56 56) end))))))))))))) (token (newline 56 56) end)))) ≡ record { line = 1; name = codes "C"; bases = codes "B" ∷ codes "D" ∷ []; init_line = 1; params = record { name = codes "x"; default = ast.none } ∷ record { name = codes "y"; default = (ast.more (ast.Name 1 (codes "z")) ast.none) } ∷ []; body = (ast.then_ (ast.Pass 1) ast.done) } ∷ []
+  pub a_class : classes (codes "import m class C(B, D): def __init__(self, x, y=z): pass") (Grown rule.File (child (Grown rule.Import (token (keyword 0 6) (child (Grown rule.Dotted (token (name 7 8) end)) (token (newline 8 8) end)))) (child (Grown rule.Class (token (keyword 9 14) (token (name 15 16) (token (sign_at 16 17) (token (name 17 18) (token (sign_at 18 19) (token (name 20 21) (token (sign_at 21 22) (token (sign_at 22 23) (token (newline 23 23) (token (newline 23 23) (child (Grown rule.Init (token (keyword 24 27) (token (name 28 36) (token (sign_at 36 37) (token (name 37 41) (token (sign_at 41 42) (token (name 43 44) (token (sign_at 44 45) (token (name 46 47) (token (sign_at 47 48) (child (Grown rule.Atom (token (name 48 49) end)) (token (sign_at 49 50) (token (sign_at 50 51) (child (Grown rule.Simple (token (keyword 52 56) (token (newline 56 56) end))) end)))))))))))))) (token (newline 56 56) end))))))))))))) (token (newline 56 56) end)))) ≡ record { line = 1; name = codes "C"; bases = record { line = 1; name = codes "B" } ∷ record { line = 1; name = codes "D" } ∷ []; init_line = 1; params = record { name = codes "x"; default = ast.none } ∷ record { name = codes "y"; default = (ast.more (ast.Name 1 (codes "z")) ast.none) } ∷ []; body = (ast.then_ (ast.Pass 1) ast.done) } ∷ []

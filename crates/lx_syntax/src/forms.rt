@@ -2,7 +2,7 @@
 
 use lx_arena::Id;
 use lx_pytree::PyNodes;
-use lx_text::List;
+use lx_text::{List, Word};
 use lx_token::Token;
 
 /// An operator between two operands; the operators of one chain are of one level.
@@ -47,7 +47,15 @@ pub struct Signed {
     pub prefix: Prefix,
 }
 
-/// A condition and what is chosen, or a key and its value.
+/// A condition and what else is chosen, in a conditional that begins on this line.
+#[derive(Clone, Copy)]
+pub struct Branching {
+    pub line: u32,
+    pub condition: Id<PyNodes>,
+    pub value: Id<PyNodes>,
+}
+
+/// A key and its value.
 #[derive(Clone, Copy)]
 pub struct Couple {
     pub first: Id<PyNodes>,
@@ -92,14 +100,16 @@ pub struct Branch {
     pub body: List<Id<PyNodes>>,
 }
 
-/// What a node says. Its parts have lower places in the same tree; names, numbers and texts are tokens of the source.
+/// What a node says as an expression. Its parts have lower places; names and texts are tokens of the source.
 #[derive(Drop)]
-pub enum Form {
+pub enum ExprForm {
+    /// It is no expression.
     Misshapen,
     /// What another node says: a bracketed expression, or an argument.
     Same(Id<PyNodes>),
     Name(Token),
-    Number(Token),
+    /// A number, where it is at most `2^127 - 1`.
+    Number(Option<i128>),
     Quoted(Token),
     Nothing,
     Truth(bool),
@@ -114,7 +124,7 @@ pub enum Form {
     Dictionary(List<Couple>),
     Choice {
         value: Id<PyNodes>,
-        rest: List<Couple>,
+        rest: List<Branching>,
     },
     Either(List<Id<PyNodes>>),
     Both(List<Id<PyNodes>>),
@@ -147,6 +157,13 @@ pub enum Form {
         of: Id<PyNodes>,
         trailers: List<Trailer>,
     },
+}
+
+/// What a node says as a statement.
+#[derive(Drop)]
+pub enum StmtForm {
+    /// It is no statement.
+    NoStmt,
     Pass,
     Value(Id<PyNodes>),
     Bind {
@@ -186,9 +203,18 @@ pub struct ClassForm {
     pub body: List<Id<PyNodes>>,
 }
 
-/// A node's form, and the line on which it begins.
+/// What a node says as an expression and as a statement, and the line on which it begins.
 #[derive(Drop)]
 pub struct Node {
     pub line: u32,
-    pub form: Form,
+    pub expr: ExprForm,
+    pub stmt: StmtForm,
+}
+
+/// What a file says: its source, a node for each node of its tree, at the same place, and its classes in their order.
+#[derive(Drop)]
+pub struct Program {
+    pub src: Word,
+    pub nodes: List<Node>,
+    pub classes: List<ClassForm>,
 }

@@ -2,9 +2,11 @@
 #![tactic(auto)]
 
 pub mod forms;
+mod whole;
 pub mod worked;
 
 pub use forms::{
-    Argument, Branch, ClassForm, Comparison, Couple, Form, Link, Node, Operator, Parameter, Place,
-    Prefix, Signed, Trailer,
+    Argument, Branch, Branching, ClassForm, Comparison, Couple, ExprForm, Link, Node, Operator,
+    Parameter, Place, Prefix, Program, Signed, StmtForm, Trailer,
 };
+pub use whole::Syntax;
