@@ -1,0 +1,118 @@
+-- The shapes and bits that are kept, while the draft grows.
+use Rattle.std.proofs.Common.{◌≡◌, false, ℕ, zero, suc, ◌+◌, ◌<◌, List, [], ◌∷◌, ◌++◌, length, refl, sym, ap, ◌∙◌, arith, inl, inr}
+use Rattle.std.specs.Prelude.{slice_index_or}
+use Rattle.std.proofs.lemmas.Bool.{cases_lt}
+use Rattle.lx_num.specs.declared.Shape.{Shape}
+use Rattle.lx_num.specs.Ints.{shape}
+use Rattle.lx_arena.proofs.Places.{one_longer}
+use Rattle.lx_circuit.specs.Shapes.{Shapes, shape_of}
+use Rattle.lx_circuit.specs.Statements.{target_bits}
+use Rattle.lx_fhdl.specs.Designs as design
+use Rattle.lx_fhdl.specs.Designs.{circuit_of, shapes}
+use Rattle.lx_fhdl.specs.Drafts.{ExprPut, TargetPut, StmtPut, Stays}
+use Rattle.lx_fhdl.specs.Nodes.{shape_at}
+use Rattle.lx_fhdl.specs.Stmts.{node_target}
+use Rattle.lx_fhdl.specs.Trees.{node_term}
+use Rattle.lx_fhdl.specs.declared.design.Design.{Design}
+use Rattle.lx_fhdl.specs.declared.exprs.Expr.{Expr}
+use Rattle.lx_fhdl.specs.declared.stmts.Stmt.{Stmt}
+use Rattle.lx_fhdl.specs.declared.stmts.Target.{Target}
+use Rattle.lx_shaped.specs.Making.{expr_shape, target_width}
+use Rattle.lx_shaped.specs.Sizes.{HasShapes, HasBits, HasSizes, bits_at}
+
+-- ---- lists that grow at the end
+
+at_front : {T : Type 0} (xs : List T) (x : T) (k : ℕ) (d : T) → k < length xs → slice_index_or (xs ++ x ∷ []) k d ≡ slice_index_or xs k d
+at_front [] x k d h = absurd (omega arith)
+at_front (y ∷ ys) x zero d h = refl
+at_front (y ∷ ys) x (suc k) d h = at_front ys x k d (omega arith)
+
+at_last : {T : Type 0} (xs : List T) (x : T) (d : T) → slice_index_or (xs ++ x ∷ []) (length xs) d ≡ x
+at_last [] x d = refl
+at_last (y ∷ ys) x d = at_last ys x d
+
+-- what is known of each place, with a place more
+each_then : {T : Type 0} (xs : List T) (x d : T) (f : ℕ → T) (n : ℕ) → length xs ≡ n → ((k : ℕ) → k < n → slice_index_or xs k d ≡ f k) → x ≡ f n → (k : ℕ) → k < n + 1 → slice_index_or (xs ++ x ∷ []) k d ≡ f k
+each_then xs x d f n long each e k l =
+    elim (cases_lt k n) [
+      | inl p ↦ at_front xs x k d (omega (arith, long)) ∙ each k p
+      | inr p ↦
+          let q : k ≡ length xs = omega (arith, long) in
+          let r : n ≡ k = omega arith in
+          ap (λ (j : ℕ). slice_index_or (xs ++ x ∷ []) j d) q ∙ at_last xs x d ∙ e ∙ ap f r
+    ]
+
+-- ---- a node more
+
+-- nodes that stay have their shapes and bits
+exprs_stay : (old new : Design) (hs : List Shape) → shapes new ≡ shapes old → Stays old new → length new.exprs ≡ length old.exprs → HasShapes old hs → HasShapes new hs
+exprs_stay old new hs e stays n h = record {
+  long = h.long ∙ sym n;
+  each = λ k l.
+      let p : k < length old.exprs = omega (arith, n) in
+      h.each k p ∙ ap (λ (s : Shapes). shape_of s (design.term old k)) (sym e) ∙ ap (shape_of (shapes new)) (sym (stays.terms k p));
+}
+
+targets_stay : (old new : Design) (bs : List ℕ) → shapes new ≡ shapes old → Stays old new → length new.targets ≡ length old.targets → HasBits old bs → HasBits new bs
+targets_stay old new bs e stays n h = record {
+  long = h.long ∙ sym n;
+  each = λ k l.
+      let p : k < length old.targets = omega (arith, n) in
+      h.each k p ∙ ap (λ (s : Shapes). target_bits s (design.target old k)) (sym e) ∙ ap (target_bits (shapes new)) (sym (stays.target_trees k p));
+}
+
+expr_shapes : (d : Design) (x : Expr) → shapes (record d { exprs = d.exprs ++ x ∷ [] }) ≡ shapes d
+unfolding circuit_of
+expr_shapes d x = refl
+
+target_shapes : (d : Design) (x : Target) → shapes (record d { targets = d.targets ++ x ∷ [] }) ≡ shapes d
+unfolding circuit_of
+target_shapes d x = refl
+
+stmt_shapes : (d : Design) (x : Stmt) → shapes (record d { stmts = d.stmts ++ x ∷ [] }) ≡ shapes d
+unfolding circuit_of
+stmt_shapes d x = refl
+
+pub sizes_expr : (old new : Design) (x : Expr) (id : ℕ) (hs more : List Shape) (bs : List ℕ) (a : Shape) → HasSizes old hs bs → ExprPut old new x id → more ≡ hs ++ a ∷ [] → a ≡ expr_shape x old → HasSizes new more bs
+sizes_expr old new x id hs more bs a h put m e =
+    let same : shapes new ≡ shapes old = ap shapes put.is ∙ expr_shapes old x in
+    let longer : length new.exprs ≡ length old.exprs + 1 = ap (λ (d : Design). length d.exprs) put.is ∙ one_longer old.exprs x in
+    let last : design.term new (length old.exprs) ≡ node_term (design.term old) x = ap (design.term new) (sym put.place) ∙ put.tree in
+    record {
+      exprs = record {
+        long = ap length m ∙ one_longer hs a ∙ ap (λ (n : ℕ). n + 1) h.exprs.long ∙ sym longer;
+        each = λ k l.
+            ap (λ (xs : List Shape). shape_at xs k) m
+            ∙ each_then hs a (shape 0 false) (λ j. shape_of (shapes new) (design.term new j)) (length old.exprs) h.exprs.long
+            (λ j p. h.exprs.each j p ∙ ap (λ (s : Shapes). shape_of s (design.term old j)) (sym same) ∙ ap (shape_of (shapes new)) (sym (put.stays.terms j p)))
+            (e ∙ ap (λ (s : Shapes). shape_of s (node_term (design.term old) x)) (sym same) ∙ ap (shape_of (shapes new)) (sym last))
+            k (omega (arith, longer));
+      };
+      targets = targets_stay old new bs same put.stays (ap (λ (d : Design). length d.targets) put.is) h.targets;
+    }
+
+pub sizes_target : (old new : Design) (x : Target) (id : ℕ) (hs : List Shape) (bs more : List ℕ) (a : ℕ) → HasSizes old hs bs → TargetPut old new x id → more ≡ bs ++ a ∷ [] → a ≡ target_width x old → HasSizes new hs more
+sizes_target old new x id hs bs more a h put m e =
+    let same : shapes new ≡ shapes old = ap shapes put.is ∙ target_shapes old x in
+    let longer : length new.targets ≡ length old.targets + 1 = ap (λ (d : Design). length d.targets) put.is ∙ one_longer old.targets x in
+    let last : design.target new (length old.targets) ≡ node_target (design.term old) (design.target old) x = ap (design.target new) (sym put.place) ∙ put.tree in
+    record {
+      exprs = exprs_stay old new hs same put.stays (ap (λ (d : Design). length d.exprs) put.is) h.exprs;
+      targets = record {
+        long = ap length m ∙ one_longer bs a ∙ ap (λ (n : ℕ). n + 1) h.targets.long ∙ sym longer;
+        each = λ k l.
+            ap (λ (xs : List ℕ). bits_at xs k) m
+            ∙ each_then bs a 0 (λ j. target_bits (shapes new) (design.target new j)) (length old.targets) h.targets.long
+            (λ j p. h.targets.each j p ∙ ap (λ (s : Shapes). target_bits s (design.target old j)) (sym same) ∙ ap (target_bits (shapes new)) (sym (put.stays.target_trees j p)))
+            (e ∙ ap (λ (s : Shapes). target_bits s (node_target (design.term old) (design.target old) x)) (sym same) ∙ ap (target_bits (shapes new)) (sym last))
+            k (omega (arith, longer));
+      };
+    }
+
+pub sizes_stmt : (old new : Design) (x : Stmt) (id : ℕ) (hs : List Shape) (bs : List ℕ) → HasSizes old hs bs → StmtPut old new x id → HasSizes new hs bs
+sizes_stmt old new x id hs bs h put =
+    let same : shapes new ≡ shapes old = ap shapes put.is ∙ stmt_shapes old x in
+    record {
+      exprs = exprs_stay old new hs same put.stays (ap (λ (d : Design). length d.exprs) put.is) h.exprs;
+      targets = targets_stay old new bs same put.stays (ap (λ (d : Design). length d.targets) put.is) h.targets;
+    }
