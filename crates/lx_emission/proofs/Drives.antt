@@ -31,7 +31,7 @@ use Rattle.lx_tie.proofs.Parts.{field_bits, exact_select, exact_cat, exact_repea
 use Rattle.lx_fhdl.specs.Below.{ExprId, expr_below}
 use Rattle.lx_fhdl.specs.Nodes.{EachPlace, EachChild, HasParts}
 use Rattle.lx_fhdl.specs.Designs.{term, shapes, memory_at}
-use Rattle.lx_fhdl.specs.Keeping.{Keeps, TakesOperands}
+use Rattle.lx_fhdl.specs.Keeping.{HasPlainIndex, Keeps, TakesOperands}
 use Rattle.lx_fhdl.specs.Lowered.{IsLowered, is_no_pick}
 use Rattle.lx_fhdl.specs.Trees.{terms_at, node_term}
 use Rattle.lx_fhdl.specs.declared.exprs.Expr.{Expr}
@@ -42,7 +42,6 @@ use Rattle.lx_arena.proofs.Places.{lower_at}
 use Rattle.lx_fhdl.proofs.Operators.{none_left, none_right, index_unsigned}
 use Rattle.lx_fhdl.proofs.Trees.{term_at-is}
 use Rattle.lx_emission.specs.Naming.{has_net, node_net, memory_name}
-use Rattle.lx_emission.specs.Emits.{HasIndex, MemoriesFit}
 use Rattle.lx_emission.proofs.Reading.{fetch_at, shape_is}
 use Rattle.lx_tie.proofs.Words.{word_exact}
 use Rattle.lx_emission.specs.Nodes.{node_shape, operand_of, operand, wide_if, parts_onto, concat_of, cat_text, slice_text, unary_text, binary_text, choice_text, node_text_of, node_text}
@@ -202,7 +201,7 @@ ReadStands w s h v m t o (Fetch memory width at) =
 ReadStands w s h v m t o _ = Unit {0}
 
 read_stands : (d : Design) (names : List Name) (s : Sizes) (v : Values) (w : Valuation) → Keeps d → DeclaresNets d names s → HasPatterns d names v w → TermsAreSmall d
-    → (k : ℕ) (x : Expr) → slice_get d.exprs k ≡ Some x → HasIndex d x → EachChild (λ j. ExactTerm w (shapes d) v (term d j) (meaning s (operand d names j))) x
+    → (k : ℕ) (x : Expr) → slice_get d.exprs k ≡ Some x → HasPlainIndex (shapes d) d.exprs x → EachChild (λ j. ExactTerm w (shapes d) v (term d j) (meaning s (operand d names j))) x
     → ReadStands w s (shapes d) v (memory_name d names) (term d) (operand d names) x
 unfolding node_shape
 read_stands d names s v w keeps declares has small k (Fetch memory width at) e plain c =
@@ -276,10 +275,10 @@ operand-is_leaf d names k = operand_leaf names (node_net d.exprs k) (slice_get d
 
 -- The text of each operator and slice gives its net the bits of the node's value.
 pub node_text_stands : (d : Design) (names : List Name) (s : Sizes) (v : Values) (w : Valuation)
-    → Keeps d → IsLowered d → MemoriesFit d → DeclaresNets d names s → HasPatterns d names v w → SignalsFit d v → TermsAreSmall d → TermsFit d v
+    → Keeps d → IsLowered d → DeclaresNets d names s → HasPatterns d names v w → SignalsFit d v → TermsAreSmall d → TermsFit d v
     → (k : ℕ) → IsNetNode d k → Drives w (node_shape d k).bits (value_of (shapes d) v (term d k)) (meaning s (node_text d names k))
 unfolding node_shape node_text
-node_text_stands d names s v w keeps lowered memories declares has fits small fit k node =
+node_text_stands d names s v w keeps lowered declares has fits small fit k node =
     let x = node.node in
     let there = node.there in
     let h = shapes d in
@@ -293,11 +292,11 @@ node_text_stands d names s v w keeps lowered memories declares has fits small fi
     (let children = each_child P k x below (lower_at expr_below d.exprs keeps.arenas.exprs_lower k x there) in
     node_drives w s h v (memory_name d names) (term d) (operand d names) x (operand-is_leaf d names) node.net (lowered.exprs k x there) (keeps.arenas.operands k x there) (keeps.arenas.parts k x there)
     (ap (fault_of h) (sym is) ∙ keeps.arenas.shaped k within)
-    children (read_stands d names s v w keeps declares has small k x there (memories.indices k x there) children)))
+    children (read_stands d names s v w keeps declares has small k x there (keeps.arenas.indices k x there) children)))
 
 -- The net of each operator and slice takes the pattern of the node's value.
 pub node_text_drives : (d : Design) (names : List Name) (s : Sizes) (v : Values) (w : Valuation)
-    → Keeps d → IsLowered d → MemoriesFit d → DeclaresNets d names s → HasPatterns d names v w → SignalsFit d v → TermsAreSmall d → TermsFit d v
+    → Keeps d → IsLowered d → DeclaresNets d names s → HasPatterns d names v w → SignalsFit d v → TermsAreSmall d → TermsFit d v
     → (k : ℕ) → IsNetNode d k → assigned s w (node_shape d k).bits (node_text d names k) ≡ modulo (value_of (shapes d) v (term d k)) (2 ^ (node_shape d k).bits)
-node_text_drives d names s v w keeps lowered memories declares has fits small fit k node =
-    drives_net w (node_shape d k).bits (value_of (shapes d) v (term d k)) (meaning s (node_text d names k)) (node_text_stands d names s v w keeps lowered memories declares has fits small fit k node)
+node_text_drives d names s v w keeps lowered declares has fits small fit k node =
+    drives_net w (node_shape d k).bits (value_of (shapes d) v (term d k)) (meaning s (node_text d names k)) (node_text_stands d names s v w keeps lowered declares has fits small fit k node)

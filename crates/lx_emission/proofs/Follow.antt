@@ -269,7 +269,7 @@ node_holds d names v state inputs w k can now is =
     let declared = declares d names keeps can.named can.ports in
     now.has.nodes k is
     ∙ sym (ap (λ z. assigned (sizes (emitted d names)) w z.bits (node_text d names k)) (declared.nodes k is)
-    ∙ node_text_drives d names (sizes (emitted d names)) v w keeps can.lowered can.memories declared now.has now.fits (terms_small d keeps) (record { each = λ j lt. design.term_fits d keeps v now.fits.each j lt }) k is)
+    ∙ node_text_drives d names (sizes (emitted d names)) v w keeps can.lowered declared now.has now.fits (terms_small d keeps) (record { each = λ j lt. design.term_fits d keeps v now.fits.each j lt }) k is)
 
 nothing_pattern : (d : Design) (names : List Name) (v : Values) (inputs : Name → ℕ) (state : Valuation) (n : Name) (s : IsNoSignal d names n) (k : IsNoNode d n) (c : IsNoClock d n) (m : IsNoMemory d names n) → (e : Class d names n) → value_by d names v inputs state n e ≡ 0
 unfolding value_by

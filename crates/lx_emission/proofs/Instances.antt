@@ -13,15 +13,12 @@ use Rattle.lx_circuit.specs.Reads.{HasOrder, reads_block, role_reads}
 use Rattle.lx_vtext.specs.Names.{is_name}
 use Rattle.lx_vtext.specs.Tree.{Name}
 use Rattle.lx_vtext.specs.Printed.{number_text, literal_text, range_text, head_text, memory_text, set_text, initial_text, assign_text, always_text, module_text}
-use Rattle.lx_fhdl.specs.Nodes.{is_fetch}
 use Rattle.lx_fhdl.specs.Trees.{term_at}
 use Rattle.lx_fhdl.specs.Stmts.{target_at, stmt_at}
 use Rattle.lx_fhdl.specs.Designs.{circuit_of}
 use Rattle.lx_fhdl.specs.Keeping.{Keeps, EachOf, is_distinct}
 use Rattle.lx_fhdl.specs.Kept.{is_kept}
 use Rattle.lx_fhdl.specs.Lowered.{IsLowered, is_no_pick}
-use Rattle.lx_fhdl.specs.declared.exprs.Expr.{Expr}
-use Rattle.lx_fhdl.specs.declared.exprs.Expr.TheVariants.{Const, Sig, Unary, Binary, Mux, Cat, Pick, Replicate, Slice, Fetch}
 use Rattle.lx_fhdl.specs.declared.design.Design.{Design}
 use Rattle.lx_fhdl.proofs.Kept.{is_kept-is}
 use Rattle.lx_emission.specs.Naming.{NamesFit, is_among, clock, nets_before, node_name, clock_name}
@@ -30,10 +27,9 @@ use Rattle.lx_emission.specs.Texts.{stmt_text}
 use Rattle.lx_emission.specs.Signals.{own, drive, signal_net, signal_assign, signal_always}
 use Rattle.lx_emission.specs.Memories.{first_words, port_text, memory_body, memory_always}
 use Rattle.lx_emission.specs.Emission.{ports_of, is_port, inner_decl, memory_decls, node_decl, node_assign, decls_of, emitted}
-use Rattle.lx_emission.specs.Emits.{CanBeEmitted, PortsFit, MemoriesFit, ShowsNothing, HasIndex}
+use Rattle.lx_emission.specs.Emits.{CanBeEmitted, PortsFit, MemoriesFit, ShowsNothing}
 use Rattle.lx_emission.specs.Instance.{toggle_exprs, toggle_targets, toggle_stmts, toggle_signals, toggle, toggle_names, toggle_text, swap_exprs, swap_targets, swap_stmts, swap_signals, swap, swap_names, swap_text, slices_exprs, slices_targets, slices_stmts, slices_signals, slices, slices_names, slices_text, mixed_exprs, mixed_targets, mixed_stmts, mixed_signals, mixed, mixed_names, mixed_text, branched_exprs, branched_targets, branched_stmts, branched_signals, branched, branched_names, branched_text, stored_exprs, stored_targets, stored_stmts, stored_signals, stored_memories, stored_ports, stored, stored_names, stored_text}
 use Rattle.lx_emission.proofs.Roles.{no_reads}
-use Rattle.lx_fhdl.proofs.Resets.{each_of_at}
 
 -- ---- premises by tests
 
@@ -88,7 +84,7 @@ role_reads_nothing c h x y = by (role c x) refl
     by circuit.Undriven e t = cc
 
 -- signals that stand after the signals that they read
-order_by : (c : Circuit) → EachOf ShowsNothing c.ports → ((x y : ℕ) → reads_block x (At y) c.comb ≡ true → y < x) → HasOrder c
+pub order_by : (c : Circuit) → EachOf ShowsNothing c.ports → ((x y : ℕ) → reads_block x (At y) c.comb ≡ true → y < x) → HasOrder c
 unfolding rank_of
 order_by c h below = record { rank = rank_of; after = λ x y e. elim (or_cases (reads_block x y c.comb) (role_reads c y (role c x)) e) [ inl p ↦ lower x y p | inr p ↦ absurd (role_reads_nothing c h x y p) ] }
   where
@@ -97,27 +93,11 @@ order_by c h below = record { rank = rank_of; after = λ x y e. elim (or_cases (
     lower x (Word m k) p = omega arith
     lower x (Kept j) p = omega arith
 
--- ---- designs without memories
+-- ---- designs without ports of memories
 
-no_index : (d : Design) (x : Expr) → not (is_fetch x) ≡ true → HasIndex d x
-no_index d (Fetch memory width at) h = absurd cc
-no_index d (Const value bits signed) h = tt
-no_index d (Sig x) h = tt
-no_index d (Unary op of) h = tt
-no_index d (Binary op left right) h = tt
-no_index d (Mux cond then_ else_) h = tt
-no_index d (Cat parts) h = tt
-no_index d (Pick items index) h = tt
-no_index d (Replicate of count) h = tt
-no_index d (Slice of low high) h = tt
-
-without_memories : (d : Design) → d.ports ≡ [] → list_all (λ x. not (is_fetch x)) d.exprs ≡ true → MemoriesFit d
+without_ports : (d : Design) → d.ports ≡ [] → MemoriesFit d
 unfolding circuit_of
-without_memories d none h = record {
-  show_nothing = rw none tt;
-  one_domain = rw none tt;
-  indices = λ k x e. no_index d x (every (λ y. not (is_fetch y)) d.exprs h k x e);
-}
+without_ports d none = record { show_nothing = rw none tt; one_domain = rw none tt }
 
 -- ---- one domain with a reset
 
@@ -147,7 +127,7 @@ toggle_io = record { once = refl; resets = refl }
 
 toggle_fit : MemoriesFit toggle
 unfolding toggle_exprs toggle_targets toggle_stmts toggle_signals toggle
-toggle_fit = without_memories toggle refl refl
+toggle_fit = without_ports toggle refl
 
 pub toggle_can : CanBeEmitted toggle toggle_names
 toggle_can = record { keeps = toggle_keeps; lowered = toggle_lowered; order = toggle_order; named = toggle_named; ports = toggle_io; memories = toggle_fit }
@@ -184,7 +164,7 @@ swap_io = record { once = refl; resets = refl }
 
 swap_fit : MemoriesFit swap
 unfolding swap_exprs swap_targets swap_stmts swap_signals swap
-swap_fit = without_memories swap refl refl
+swap_fit = without_ports swap refl
 
 pub swap_can : CanBeEmitted swap swap_names
 swap_can = record { keeps = swap_keeps; lowered = swap_lowered; order = swap_order; named = swap_named; ports = swap_io; memories = swap_fit }
@@ -225,7 +205,7 @@ slices_io = record { once = refl; resets = refl }
 
 slices_fit : MemoriesFit slices
 unfolding slices_exprs slices_targets slices_stmts slices_signals slices
-slices_fit = without_memories slices refl refl
+slices_fit = without_ports slices refl
 
 pub slices_can : CanBeEmitted slices slices_names
 slices_can = record { keeps = slices_keeps; lowered = slices_lowered; order = slices_order; named = slices_named; ports = slices_io; memories = slices_fit }
@@ -266,7 +246,7 @@ mixed_io = record { once = refl; resets = refl }
 
 mixed_fit : MemoriesFit mixed
 unfolding mixed_exprs mixed_targets mixed_stmts mixed_signals mixed
-mixed_fit = without_memories mixed refl refl
+mixed_fit = without_ports mixed refl
 
 pub mixed_can : CanBeEmitted mixed mixed_names
 mixed_can = record { keeps = mixed_keeps; lowered = mixed_lowered; order = mixed_order; named = mixed_named; ports = mixed_io; memories = mixed_fit }
@@ -307,7 +287,7 @@ branched_io = record { once = refl; resets = refl }
 
 branched_fit : MemoriesFit branched
 unfolding branched_exprs branched_targets branched_stmts branched_signals branched
-branched_fit = without_memories branched refl refl
+branched_fit = without_ports branched refl
 
 pub branched_can : CanBeEmitted branched branched_names
 branched_can = record { keeps = branched_keeps; lowered = branched_lowered; order = branched_order; named = branched_named; ports = branched_io; memories = branched_fit }
@@ -347,12 +327,8 @@ unfolding stored_exprs stored_targets stored_stmts stored_signals stored_memorie
 stored_io = record { once = refl; resets = refl }
 
 stored_fit : MemoriesFit stored
-unfolding stored_exprs stored_targets stored_stmts stored_signals stored_memories stored_ports stored circuit_of fold_at term_at target_at stmt_at node_shape
-stored_fit = record {
-  show_nothing = (refl, (refl, tt));
-  one_domain = (λ h. refl, (λ h. refl, tt));
-  indices = each_of_at (HasIndex stored) stored_exprs (tt, (refl, (tt, (tt, (tt, (tt, (tt, (refl, tt))))))));
-}
+unfolding stored_exprs stored_targets stored_stmts stored_signals stored_memories stored_ports stored circuit_of
+stored_fit = record { show_nothing = (refl, (refl, tt)); one_domain = (λ h. refl, (λ h. refl, tt)) }
 
 pub stored_can : CanBeEmitted stored stored_names
 stored_can = record { keeps = stored_keeps; lowered = stored_lowered; order = stored_order; named = stored_named; ports = stored_io; memories = stored_fit }

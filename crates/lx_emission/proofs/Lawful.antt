@@ -81,10 +81,15 @@ digits_are_bytes (d ∷ ds) h =
     let p = and_parts (is_digit d) (list_all is_digit ds) h in
     and_from (is_name_byte d) (list_all is_name_byte ds) (or_left (is_name_start d || is_digit d) (eqb d 36) (or_right (is_name_start d) (is_digit d) p.0)) (digits_are_bytes ds p.1)
 
+-- a letter, `$` and a number are a name
+pub dollar_lawful : (b n : ℕ) → is_name_start b ≡ true → IsTrue (is_name (b ∷ (36 ∷ number_text n)))
+dollar_lawful b n h =
+    no_word is_no_dollar (b ∷ (36 ∷ number_text n)) (and_from (is_name_start b) (list_all is_name_byte (36 ∷ number_text n)) h (digits_are_bytes (number_text n) (number_back n).1)) no_dollars refl
+
 -- `n$` and a number is a name
 pub node_name_lawful : (n : ℕ) → IsTrue (is_name (node_name n))
 unfolding node_name
-node_name_lawful n = no_word is_no_dollar (node_name n) (digits_are_bytes (number_text n) (number_back n).1) no_dollars refl
+node_name_lawful n = dollar_lawful 110 n refl
 
 -- a first letter of Python is one of Verilog
 first_is_start : (b : ℕ) → is_first b ≡ is_name_start b

@@ -46,7 +46,7 @@ choice_not_read true b j e = cc
 choice_not_read false true j e = cc
 choice_not_read false false j e = cc
 
-none_read : (x k : ℕ) (qs : List Port) (other : Role) → EachOf (λ (q : Port). q.reader ≡ None) qs → read_role x k qs other ≡ other
+pub none_read : (x k : ℕ) (qs : List Port) (other : Role) → EachOf (λ (q : Port). q.reader ≡ None) qs → read_role x k qs other ≡ other
 none_read x k [] other h = refl
 none_read x k (q ∷ qs) other h = ap (λ o. cond (is_named x o) (Read k) (read_role x (k + 1) qs other)) h.0 ∙ none_read x (k + 1) qs other h.1
 

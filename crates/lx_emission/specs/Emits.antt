@@ -1,5 +1,5 @@
 -- What the module of a lowered design is.
-use Rattle.std.specs.Prelude.{◌≡◌, ℕ, Bool, true, false, not, ◌&&◌, List, [], ◌∷◌, Some, None, is_some, slice_get, IsTrue}
+use Rattle.std.specs.Prelude.{◌≡◌, ℕ, Bool, true, not, ◌&&◌, List, [], ◌∷◌, None, is_some, IsTrue}
 use Rattle.lx_circuit.specs.Memories as memory
 use Rattle.lx_circuit.specs.Circuit as circuit
 use Rattle.lx_circuit.specs.Reads.{HasOrder}
@@ -10,11 +10,8 @@ use Rattle.lx_agree.specs.Agreement.{Agrees, HasPorts}
 use Rattle.lx_fhdl.specs.Designs.{circuit_of}
 use Rattle.lx_fhdl.specs.Keeping.{Keeps, EachOf}
 use Rattle.lx_fhdl.specs.Lowered.{IsLowered}
-use Rattle.lx_fhdl.specs.declared.exprs.Expr.{Expr}
-use Rattle.lx_fhdl.specs.declared.exprs.Expr.TheVariants.{Fetch}
 use Rattle.lx_fhdl.specs.declared.design.Design.{Design}
 use Rattle.lx_emission.specs.Naming.{NamesFit, naming}
-use Rattle.lx_emission.specs.Nodes.{node_shape}
 use Rattle.lx_emission.specs.Memories.{writing_domain}
 use Rattle.lx_emission.specs.Emission.{decls_of, emitted}
 
@@ -31,11 +28,6 @@ pub record PortsFit (d : Design) : Type 0 where
   pub once : IsTrue (are_once (circuit_of d).ios)
   pub resets : IsTrue (none_is_reset (circuit_of d).ios (circuit_of d).domains)
 
--- the index of a read of a memory is unsigned
-abbrev pub HasIndex : Design → Expr → Type 0
-HasIndex d (Fetch memory width at) = (node_shape d at.place).signed ≡ false
-HasIndex d _ = Unit {0}
-
 -- the port shows nothing: memories are read by expressions alone
 abbrev pub ShowsNothing : memory.Port → Type 0
 ShowsNothing q = q.reader ≡ None
@@ -44,11 +36,10 @@ ShowsNothing q = q.reader ≡ None
 abbrev pub IsWithFirst : List memory.Port → memory.Port → Type 0
 IsWithFirst qs q = is_some q.writer ≡ true → q.domain ≡ writing_domain q.memory qs
 
--- No port reads, the ports that write one memory stand in one domain, and reads have unsigned indices.
+-- No port reads, and the ports that write one memory stand in one domain.
 pub record MemoriesFit (d : Design) : Type 0 where
   pub show_nothing : EachOf ShowsNothing (circuit_of d).ports
   pub one_domain : EachOf (IsWithFirst (circuit_of d).ports) (circuit_of d).ports
-  pub indices : (k : ℕ) (x : Expr) → slice_get d.exprs k ≡ Some x → HasIndex d x
 
 -- A lowered design that can be written: its reads have an order, its nets and memories have names, and its memories fit.
 pub record CanBeEmitted (d : Design) (names : List Name) : Type 0 where

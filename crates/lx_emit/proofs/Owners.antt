@@ -23,6 +23,10 @@ use Rattle.lx_emission.specs.Emits.{MemoriesFit, ShowsNothing}
 use Rattle.lx_emission.specs.Signals as signals
 use Rattle.lx_emission.specs.Signals.{own, is_whole, whole_value, single, comb_drive, drive_by, drive}
 use Rattle.lx_emission.specs.Texts.{covers}
+use Rattle.lx_emission.proofs.Blocks.{sync_below, sync_plain}
+use Rattle.lx_emission.proofs.Parts.{role_within}
+use Rattle.lx_emission.proofs.Pieces.{own_below}
+use Rattle.lx_emission.proofs.Roles.{none_read}
 use Rattle.lx_emit.specs.declared.drives.Drive.{Drive}
 use Rattle.lx_emit.specs.declared.drives.Drive.TheVariants as now
 use Rattle.lx_emit.specs.Drives.{AllAreThere, AreClocked, AreClosed, AreClosedTo, AreDrives, AreFilled, AreIdle, HaveNoBlock, IsThere, IsPlainDrive, block_of, block_or, clocked_from, clocked_or, closed, drive_at, drive_of, equal_or, idle_drive, is_block, is_input, with_stmt}
@@ -42,34 +46,6 @@ pub plain_at : (d : Design) (ids : List StmtId) (k : ℕ) (other : StmtId) → A
 plain_at d [] k other h l = absurd (omega arith)
 plain_at d (i ∷ is) zero other h l = h.0
 plain_at d (i ∷ is) (suc k) other h l = plain_at d is k other h.1 (omega arith)
-
-both_below : (n : ℕ) (is js : List StmtId) → all_stmts_below n is ≡ true → all_stmts_below n js ≡ true → all_stmts_below n (is ++ js) ≡ true
-both_below n [] js h g = g
-both_below n (i ∷ is) js h g =
-    let p = and_parts (nat_lt i.place n) (all_stmts_below n is) h in
-    ap (λ z. z && all_stmts_below n (is ++ js)) p.0 ∙ both_below n is js p.1 g
-
-both_plain : (d : Design) (is js : List StmtId) → ArePlain (block d is) → ArePlain (block d js) → ArePlain (block d (is ++ js))
-both_plain d [] js h g = g
-both_plain d (i ∷ is) js h g = (h.0, both_plain d is js h.1 g)
-
-part_below : (b : Bool) (n : ℕ) (is js : List StmtId) → all_stmts_below n is ≡ true → all_stmts_below n js ≡ true → all_stmts_below n (cond b (is ++ js) js) ≡ true
-part_below true n is js h g = both_below n is js h g
-part_below false n is js h g = g
-
-part_plain : (b : Bool) (d : Design) (is js : List StmtId) → ArePlain (block d is) → ArePlain (block d js) → ArePlain (block d (cond b (is ++ js) js))
-part_plain true d is js h g = both_plain d is js h g
-part_plain false d is js h g = g
-
--- the statements of a domain are there
-pub domain_there : (d : Design) (k : ℕ) (ps : List SyncPart) → EachOf (PartStands d) ps → all_stmts_below (length d.stmts) (stmts_of k ps) ≡ true
-domain_there d k [] h = refl
-domain_there d k (p ∷ ps) h = part_below (nat_eq p.domain k) (length d.stmts) p.stmts (stmts_of k ps) h.0.stmts.there (domain_there d k ps h.1)
-
--- and plain
-pub domain_plain : (d : Design) (k : ℕ) (ps : List SyncPart) → EachOf (λ (p : SyncPart). ArePlain (block d p.stmts)) ps → ArePlain (block d (stmts_of k ps))
-domain_plain d k [] h = tt
-domain_plain d k (p ∷ ps) h = part_plain (nat_eq p.domain k) d p.stmts (stmts_of k ps) h.0 (domain_plain d k ps h.1)
 
 -- ---- the statements of a list that assign a signal
 
@@ -145,19 +121,6 @@ filled_next d clock ids k z a b y q r none l own_is m h e f = record {
         ∙ h.each x lt
         ∙ ap (λ (is : List StmtId). block_or clock is (drive_at a x)) (sym (own_next d x k ids z false l not_driven ∙ append-nil (own d x (take k ids))))
 
--- ---- what is there
-
-one_below : (b : Bool) (n : ℕ) (i : StmtId) (is : List StmtId) → nat_lt i.place n ≡ true → all_stmts_below n is ≡ true → all_stmts_below n (cond b (i ∷ is) is) ≡ true
-one_below true n i is h g = ap (λ z. z && all_stmts_below n is) h ∙ g
-one_below false n i is h g = g
-
-pub own_below : (d : Design) (x n : ℕ) (is : List StmtId) → all_stmts_below n is ≡ true → all_stmts_below n (own d x is) ≡ true
-unfolding own
-own_below d x n [] h = refl
-own_below d x n (i ∷ is) h =
-    let p = and_parts (nat_lt i.place n) (all_stmts_below n is) h in
-    one_below (drives x (stmt d i.place)) n i (own d x is) p.0 (own_below d x n is p.1)
-
 -- ---- the signals of a design
 
 made_in : (xs : List Signal) (k : ℕ) (s : Signal) → slice_get xs k ≡ Some s → slice_index_or (map made_of xs) k nothing ≡ made_of s
@@ -211,10 +174,6 @@ sync_drive d x k (a ∷ as_) other =
     ap (λ b. drive_by d x (cond b (Sync k) rest)) (driven_own d x (stmts_of k d.sync))
     ∙ domain_drive d x k rest (own d x (stmts_of k d.sync)) refl
     ∙ ap (block_or (Some k) (own d x (stmts_of k d.sync))) (sync_drive d x (k + 1) as_ other)
-
-read_none : (x k : ℕ) (qs : List memory.Port) (other : Role) → EachOf ShowsNothing qs → read_role x k qs other ≡ other
-read_none x k [] other h = refl
-read_none x k (q ∷ qs) other h = ap (λ (o : Option ℕ). cond (is_named x o) (Read k) (read_role x (k + 1) qs other)) h.0 ∙ read_none x (k + 1) qs other h.1
 
 idle_is : (d : Design) (x : ℕ) → drive_by d x (idle_role (circuit_of d) x) ≡ idle_drive (is_input d x)
 unfolding is_port
@@ -338,7 +297,7 @@ drive_is d x nothing_shown =
     let idle = read_role x 0 (circuit_of d).ports (idle_role (circuit_of d) x) in
     let rest = sync_role x 0 (domains_from d 0 d.domains) idle in
     let clocked : drive_by d x rest ≡ clocked_from d 0 x =
-    sync_drive d x 0 d.domains idle ∙ ap (clocked_or d x 0 d.domains) (ap (drive_by d x) (read_none x 0 (circuit_of d).ports (idle_role (circuit_of d) x) nothing_shown) ∙ idle_is d x) in
+    sync_drive d x 0 d.domains idle ∙ ap (clocked_or d x 0 d.domains) (ap (drive_by d x) (none_read x 0 (circuit_of d).ports (idle_role (circuit_of d) x) nothing_shown) ∙ idle_is d x) in
     ap (λ b. drive_by d x (cond b Comb rest)) (driven_own d x d.comb)
     ∙ comb_is d x rest (own d x d.comb) refl (ap (is_block None) clocked ∙ no_comb d x 0 d.domains (is_input d x))
     ∙ ap (λ (r : signals.Drive). closed d (block_or None (own d x d.comb) r)) clocked
@@ -358,41 +317,6 @@ drives_are d a b c fit h f g = record {
 
 -- ---- what a drive names is there
 
--- a domain that drives is one of the design
-abbrev IsRole : ℕ → Role → Type 0
-IsRole n Input = Unit {0}
-IsRole n Comb = Unit {0}
-IsRole n (Sync k) = k < n
-IsRole n (Read j) = Unit {0}
-IsRole n Undriven = Unit {0}
-
-either_is : (b : Bool) (n : ℕ) (r q : Role) → IsRole n r → IsRole n q → IsRole n (cond b r q)
-either_is true n r q h g = h
-either_is false n r q h g = g
-
-sync_there : (d : Design) (x n k : ℕ) (xs : List Domain) (other : Role) → k + length xs ≤ n → IsRole n other → IsRole n (sync_role x k (domains_from d k xs) other)
-sync_there d x n k [] other l h = h
-sync_there d x n k (a ∷ as_) other l h =
-    let within : k < n = omega arith in
-    either_is (drives_block x (block d (stmts_of k d.sync))) n (Sync k) (sync_role x (k + 1) (domains_from d (k + 1) as_) other) within (sync_there d x n (k + 1) as_ other (omega arith) h)
-
-read_there : (x n k : ℕ) (qs : List memory.Port) (other : Role) → IsRole n other → IsRole n (read_role x k qs other)
-read_there x n k [] other h = h
-read_there x n k (q ∷ qs) other h = either_is (is_named x q.reader) n (Read k) (read_role x (k + 1) qs other) tt (read_there x n (k + 1) qs other h)
-
-idle_there : (d : Design) (x n : ℕ) → IsRole n (idle_role (circuit_of d) x)
-idle_there d x n =
-    either_is (circuit.made (circuit_of d) x).given n Undriven (cond (circuit.is_among x (circuit_of d).ios || circuit.is_some_reset x (circuit_of d).domains) Input Undriven) tt
-    (either_is (circuit.is_among x (circuit_of d).ios || circuit.is_some_reset x (circuit_of d).domains) n Input Undriven tt tt)
-
-role_there : (d : Design) (x : ℕ) → IsRole (length d.domains) (role (circuit_of d) x)
-unfolding circuit_of
-role_there d x =
-    let idle = read_role x 0 (circuit_of d).ports (idle_role (circuit_of d) x) in
-    either_is (drives_block x (block d d.comb)) (length d.domains) Comb (sync_role x 0 (domains_from d 0 d.domains) idle) tt
-    (sync_there d x (length d.domains) 0 d.domains idle (omega arith)
-    (read_there x (length d.domains) 0 (circuit_of d).ports (idle_role (circuit_of d) x) (idle_there d x (length d.domains))))
-
 whole_there : (b : Bool) (d : Design) (value : ExprId) (ids : List StmtId) → IsTrue (all_stmts_below (length d.stmts) ids) → value.place < length d.exprs → IsThere d (comb_drive ids (cond b (Some value) None))
 whole_there true d value ids h l = l
 whole_there false d value ids h l = h
@@ -408,16 +332,16 @@ single_there d [] keeps h = h
 single_there d (i ∷ []) keeps h = value_there d i.place (slice_get d.stmts i.place) (i ∷ []) keeps refl h
 single_there d (i ∷ (j ∷ is)) keeps h = h
 
-by_role_there : (d : Design) (x : ℕ) (r : Role) → Keeps d → IsRole (length d.domains) r → IsThere d (drive_by d x r)
+by_role_there : (d : Design) (x : ℕ) (r : Role) → Keeps d → role (circuit_of d) x ≡ r → IsThere d (drive_by d x r)
 by_role_there d x Input keeps h = tt
 by_role_there d x Undriven keeps h = tt
 by_role_there d x (Read j) keeps h = tt
 by_role_there d x Comb keeps h = single_there d (own d x d.comb) keeps (own_below d x (length d.stmts) d.comb keeps.comb.there)
-by_role_there d x (Sync k) keeps h = (h, own_below d x (length d.stmts) (stmts_of k d.sync) (domain_there d k d.sync keeps.sync))
+by_role_there d x (Sync k) keeps h = (role_within d x k h, own_below d x (length d.stmts) (stmts_of k d.sync) (sync_below d k d.sync keeps.sync))
 
 pub drive_there : (d : Design) (x : ℕ) → Keeps d → IsThere d (drive d x)
 unfolding drive
-drive_there d x keeps = by_role_there d x (role (circuit_of d) x) keeps (role_there d x)
+drive_there d x keeps = by_role_there d x (role (circuit_of d) x) keeps refl
 
 -- ---- the statements of a drive are plain
 
@@ -439,7 +363,7 @@ by_role_plain d x Input low = tt
 by_role_plain d x Undriven low = tt
 by_role_plain d x (Read j) low = tt
 by_role_plain d x Comb low = combined_plain d (own d x d.comb) (single d (own d x d.comb)) (own_plain d x d.comb low.comb)
-by_role_plain d x (Sync k) low = own_plain d x (stmts_of k d.sync) (domain_plain d k d.sync low.sync)
+by_role_plain d x (Sync k) low = own_plain d x (stmts_of k d.sync) (sync_plain d k d.sync low.sync)
 
 pub drive_plain : (d : Design) (x : ℕ) → IsLowered d → IsPlainDrive d (drive d x)
 unfolding drive
@@ -456,7 +380,7 @@ clocked_there d x k [] true keeps l = tt
 clocked_there d x k [] false keeps l = tt
 clocked_there d x k (a ∷ as_) b keeps l =
     or_there d (Some k) (own d x (stmts_of k d.sync)) (clocked_or d x (k + 1) as_ (idle_drive b))
-    (omega arith, own_below d x (length d.stmts) (stmts_of k d.sync) (domain_there d k d.sync keeps.sync)) (clocked_there d x (k + 1) as_ b keeps (omega arith))
+    (omega arith, own_below d x (length d.stmts) (stmts_of k d.sync) (sync_below d k d.sync keeps.sync)) (clocked_there d x (k + 1) as_ b keeps (omega arith))
 
 pub all_there : (d : Design) (a b : List Drive) → Keeps d → AreClocked d 0 a → AreFilled d None d.comb a b → AllAreThere d b
 all_there d a b keeps h f = record {

@@ -1,5 +1,6 @@
 pub mod Drives
 pub mod Lines
+pub mod Lowered
 pub mod Marks
 pub mod Memories
 pub mod Operands

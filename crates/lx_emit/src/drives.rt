@@ -3,13 +3,12 @@
 ghost use Rattle.std.specs.Prelude.{◌≡◌, ◌<◌, ◌++◌, ◌&&◌, length, not, slice_get, Some, IsSome, IsTrue, IfOk, OnOk};
 ghost use Rattle.lx_fhdl.specs.Below.{all_stmts_below};
 ghost use Rattle.lx_fhdl.specs.Designs.{block, stmt, stmts_of, target};
-ghost use Rattle.lx_fhdl.specs.Keeping.{Keeps};
-ghost use Rattle.lx_fhdl.specs.Lowered.{ArePlain, IsLowered, IsPlain, is_for, is_plain_target};
-ghost use Rattle.lx_emission.specs.Emits.{MemoriesFit};
+ghost use Rattle.lx_fhdl.specs.Lowered.{ArePlain, IsPlain, is_for, is_plain_target};
 ghost use Rattle.lx_emission.specs.Signals.{is_whole, single, whole_value};
 ghost use Rattle.lx_emit.specs.Drives.{AllAreThere, AreClocked, AreClosed, AreDrives, AreFilled, AreIdle, HaveNoBlock, IsPlainTarget, IsThere, closed, drive_of, first_inside, idle_drive, whole_of, with_clocked, with_comb, with_stmt};
 ghost use Rattle.lx_emit.specs.Marks.{AreMarks};
 
+use crate::lowered::Lowered;
 use lx_fhdl::{Branch, Design, ExprId, SigId, Signal, Stmt, StmtId, Target, TargetId};
 use lx_text::{List, NoMemory};
 use std::alloc::Global;
@@ -30,14 +29,13 @@ pub enum Drive {
 }
 
 /// The signal that a plain target changes.
-fn signal_of_target(design: &Design, id: TargetId) -> SigId
-    requires place { id.place < length design.now.targets }
-    requires keeps { Keeps design.now }
-    requires plain { IsPlainTarget (target design.now id.place) }
-    ensures alone { IsTrue (is_plain_target result.0 (target design.now id.place)) }
-    ensures there { result.0 < length design.now.signals }
+fn signal_of_target(lowered: &Lowered, id: TargetId) -> SigId
+    requires place { id.place < length lowered.now.targets }
+    requires plain { IsPlainTarget (target lowered.now id.place) }
+    ensures alone { IsTrue (is_plain_target result.0 (target lowered.now id.place)) }
+    ensures there { result.0 < length lowered.now.signals }
 {
-    match design.targets.get(id) {
+    match lowered.design.targets.get(id) {
         Target::Whole(signal) => *signal,
         Target::Part { signal, .. } => *signal,
         Target::Cat(_) => unreachable!(),
@@ -57,17 +55,16 @@ fn first_inside(branches: &[Branch], rest: &[StmtId]) -> StmtId
 }
 
 /// The one signal that a plain statement assigns.
-pub fn signal_of(design: &Design, id: StmtId) -> SigId
-    requires place { id.place < length design.now.stmts }
-    requires keeps { Keeps design.now }
-    requires plain { IsPlain (stmt design.now id.place) }
-    ensures alone { IsTrue (is_for result.0 (stmt design.now id.place)) }
-    ensures there { result.0 < length design.now.signals }
+pub fn signal_of(lowered: &Lowered, id: StmtId) -> SigId
+    requires place { id.place < length lowered.now.stmts }
+    requires plain { IsPlain (stmt lowered.now id.place) }
+    ensures alone { IsTrue (is_for result.0 (stmt lowered.now id.place)) }
+    ensures there { result.0 < length lowered.now.signals }
 {
-    match design.stmts.get(id) {
-        Stmt::Assign { target, .. } => signal_of_target(design, *target),
+    match lowered.design.stmts.get(id) {
+        Stmt::Assign { target, .. } => signal_of_target(lowered, *target),
         Stmt::If { branches, rest, .. } => {
-            signal_of(design, first_inside(branches.as_slice(), rest.as_slice()))
+            signal_of(lowered, first_inside(branches.as_slice(), rest.as_slice()))
         }
         Stmt::Case { .. } => unreachable!(),
     }
@@ -97,40 +94,37 @@ pub fn domain_stmts(alloc: Global, design: &Design, k: usize) -> Result<List<Stm
 }
 
 /// Whether a target is a whole signal, or all its bits.
-fn is_whole(design: &Design, id: TargetId) -> bool
-    requires place { id.place < length design.now.targets }
-    requires keeps { Keeps design.now }
-    ensures { result ≡ is_whole design.now (slice_get design.now.targets id.place) }
+fn is_whole(lowered: &Lowered, id: TargetId) -> bool
+    requires place { id.place < length lowered.now.targets }
+    ensures { result ≡ is_whole lowered.now (slice_get lowered.now.targets id.place) }
 {
-    match design.targets.get(id) {
+    match lowered.design.targets.get(id) {
         Target::Whole(_) => true,
         Target::Part { signal, low, len } => {
-            *low == 0 && *len == design.signals.at(signal.0).shape.bits
+            *low == 0 && *len == lowered.design.signals.at(signal.0).shape.bits
         }
         Target::Cat(_) | Target::Pick { .. } => false,
     }
 }
 
 /// The right side of an assignment to a whole signal.
-fn whole_value(design: &Design, id: StmtId) -> Option<ExprId>
-    requires place { id.place < length design.now.stmts }
-    requires keeps { Keeps design.now }
-    ensures { result ≡ whole_value design.now (slice_get design.now.stmts id.place) }
+fn whole_value(lowered: &Lowered, id: StmtId) -> Option<ExprId>
+    requires place { id.place < length lowered.now.stmts }
+    ensures { result ≡ whole_value lowered.now (slice_get lowered.now.stmts id.place) }
 {
-    match design.stmts.get(id) {
-        Stmt::Assign { target, value, .. } if is_whole(design, *target) => Some(*value),
+    match lowered.design.stmts.get(id) {
+        Stmt::Assign { target, value, .. } if is_whole(lowered, *target) => Some(*value),
         _ => None,
     }
 }
 
 /// The right side of a list that is one unconditional assignment to a whole signal.
-fn single(design: &Design, ids: &[StmtId]) -> Option<ExprId>
-    requires keeps { Keeps design.now }
-    requires there { IsTrue (all_stmts_below (length design.now.stmts) ids.now) }
-    ensures { result ≡ single design.now ids.now }
+fn single(lowered: &Lowered, ids: &[StmtId]) -> Option<ExprId>
+    requires there { IsTrue (all_stmts_below (length lowered.now.stmts) ids.now) }
+    ensures { result ≡ single lowered.now ids.now }
 {
     match ids {
-        [id] => whole_value(design, *id),
+        [id] => whole_value(lowered, *id),
         _ => None,
     }
 }
@@ -173,20 +167,19 @@ fn add(alloc: Global, drive: &mut Drive, clock: Option<usize>, id: StmtId) -> Re
 /// Drives the signals with statements of this list by their blocks.
 fn fill(
     alloc: Global,
-    design: &Design,
+    lowered: &Lowered,
     clock: Option<usize>,
     ids: &[StmtId],
     drives: &mut [Drive],
 ) -> Result<(), NoMemory>
-    requires keeps { Keeps design.now }
-    requires there { IsTrue (all_stmts_below (length design.now.stmts) ids.now) }
-    requires plain { ArePlain (block design.now ids.now) }
-    requires long { length drives.old ≡ length design.now.signals }
+    requires there { IsTrue (all_stmts_below (length lowered.now.stmts) ids.now) }
+    requires plain { ArePlain (block lowered.now ids.now) }
+    requires long { length drives.old ≡ length lowered.now.signals }
     requires none { HaveNoBlock clock drives.old }
-    ensures { OnOk result (AreFilled design.now clock ids.now drives.old drives.new) }
+    ensures { OnOk result (AreFilled lowered.now clock ids.now drives.old drives.new) }
 {
     for id in ids {
-        let signal = signal_of(design, *id);
+        let signal = signal_of(lowered, *id);
         add(alloc, &mut drives[signal.0], clock, *id)?;
     }
     Ok(())
@@ -224,76 +217,65 @@ fn idle(alloc: Global, design: &Design, ports: &[bool]) -> Result<Vec<Drive>, No
 }
 
 /// Drives the signals with statements of a domain by their blocks; the first domain counts.
-fn fill_domains(alloc: Global, design: &Design, drives: &mut [Drive]) -> Result<(), NoMemory>
-    requires keeps { Keeps design.now }
-    requires lowered { IsLowered design.now }
-    requires idle { AreClocked design.now (length design.now.domains) drives.old }
-    ensures { OnOk result (AreClocked design.now 0 drives.new) }
+fn fill_domains(alloc: Global, lowered: &Lowered, drives: &mut [Drive]) -> Result<(), NoMemory>
+    requires idle { AreClocked lowered.now (length lowered.now.domains) drives.old }
+    ensures { OnOk result (AreClocked lowered.now 0 drives.new) }
 {
-    for k in (0..design.domains.len()).rev() {
-        let stmts = domain_stmts(alloc, design, k)?;
-        fill(alloc, design, Some(k), stmts.as_slice(), drives)?;
+    for k in (0..lowered.design.domains.len()).rev() {
+        let stmts = domain_stmts(alloc, lowered.design, k)?;
+        fill(alloc, lowered, Some(k), stmts.as_slice(), drives)?;
     }
     Ok(())
 }
 
 /// The right side of a block that is one unconditional assignment to a whole signal.
-fn whole_of(design: &Design, drive: &Drive) -> Option<ExprId>
-    requires keeps { Keeps design.now }
-    requires there { IsThere design.now (drive_of drive.now) }
-    ensures { result ≡ whole_of design.now (drive_of drive.now) }
+fn whole_of(lowered: &Lowered, drive: &Drive) -> Option<ExprId>
+    requires there { IsThere lowered.now (drive_of drive.now) }
+    ensures { result ≡ whole_of lowered.now (drive_of drive.now) }
 {
     match drive {
-        Drive::CombBlock(body) => single(design, body.as_slice()),
+        Drive::CombBlock(body) => single(lowered, body.as_slice()),
         Drive::Input | Drive::Undriven | Drive::CombAssign(_) | Drive::Sync { .. } => None,
     }
 }
 
 /// Writes a block that is one unconditional assignment to a whole signal as such.
-fn close_one(design: &Design, drive: &mut Drive)
-    requires keeps { Keeps design.now }
-    requires there { IsThere design.now (drive_of drive.old) }
-    ensures { drive_of drive.new ≡ closed design.now (drive_of drive.old) }
+fn close_one(lowered: &Lowered, drive: &mut Drive)
+    requires there { IsThere lowered.now (drive_of drive.old) }
+    ensures { drive_of drive.new ≡ closed lowered.now (drive_of drive.old) }
 {
-    if let Some(value) = whole_of(design, drive) {
+    if let Some(value) = whole_of(lowered, drive) {
         *drive = Drive::CombAssign(value);
     }
 }
 
 /// Writes the blocks that are one unconditional assignment to a whole signal as such.
-fn close(design: &Design, drives: &mut [Drive])
-    requires keeps { Keeps design.now }
-    requires there { AllAreThere design.now drives.old }
-    ensures { AreClosed design.now drives.old drives.new }
+fn close(lowered: &Lowered, drives: &mut [Drive])
+    requires there { AllAreThere lowered.now drives.old }
+    ensures { AreClosed lowered.now drives.old drives.new }
 {
     for x in 0..drives.len() {
-        close_one(design, &mut drives[x]);
+        close_one(lowered, &mut drives[x]);
     }
 }
 
 /// Drives all signals: by the domains' statements, and then by the combinatorial ones.
-fn drive_all(alloc: Global, design: &Design, drives: &mut [Drive]) -> Result<(), NoMemory>
-    requires keeps { Keeps design.now }
-    requires lowered { IsLowered design.now }
-    requires fit { MemoriesFit design.now }
-    requires idle { AreClocked design.now (length design.now.domains) drives.old }
-    ensures { OnOk result (AreDrives design.now drives.new) }
+fn drive_all(alloc: Global, lowered: &Lowered, drives: &mut [Drive]) -> Result<(), NoMemory>
+    requires idle { AreClocked lowered.now (length lowered.now.domains) drives.old }
+    ensures { OnOk result (AreDrives lowered.now drives.new) }
 {
-    fill_domains(alloc, design, drives)?;
-    fill(alloc, design, None, design.comb.as_slice(), drives)?;
-    close(design, drives);
+    fill_domains(alloc, lowered, drives)?;
+    fill(alloc, lowered, None, lowered.design.comb.as_slice(), drives)?;
+    close(lowered, drives);
     Ok(())
 }
 
 /// How the net of each signal is driven, in time that is linear in the design.
-pub fn drives(alloc: Global, design: &Design, ports: &[bool]) -> Result<List<Drive>, NoMemory>
-    requires keeps { Keeps design.now }
-    requires lowered { IsLowered design.now }
-    requires fit { MemoriesFit design.now }
-    requires ports { AreMarks design.now ports.now }
-    ensures { IfOk result (λ drives. AreDrives design.now drives) }
+pub fn drives(alloc: Global, lowered: &Lowered, ports: &[bool]) -> Result<List<Drive>, NoMemory>
+    requires ports { AreMarks lowered.now ports.now }
+    ensures { IfOk result (λ drives. AreDrives lowered.now drives) }
 {
-    let mut drives = idle(alloc, design, ports)?;
-    drive_all(alloc, design, drives.as_mut_slice())?;
+    let mut drives = idle(alloc, lowered.design, ports)?;
+    drive_all(alloc, lowered, drives.as_mut_slice())?;
     Ok(List::from_vec(drives))
 }

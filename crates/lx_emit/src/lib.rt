@@ -7,6 +7,7 @@ pub mod blocks;
 pub mod decls;
 pub mod drives;
 pub mod exprs;
+pub mod lowered;
 pub mod marks;
 pub mod memories;
 pub mod nets;

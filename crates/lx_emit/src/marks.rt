@@ -2,10 +2,10 @@
 
 ghost use Rattle.std.specs.Prelude.{◌≡◌, ◌<◌, false, length, option_map, replicate, IfOk, IfSome};
 ghost use Rattle.lx_fhdl.specs.Designs.{signal_number};
-ghost use Rattle.lx_fhdl.specs.Keeping.{Keeps};
 ghost use Rattle.lx_emit.specs.Marks.{AreAmong, AreMarks, AreResetsToo, IsMarkedToo};
 
-use lx_fhdl::{Design, Domain};
+use crate::lowered::Lowered;
+use lx_fhdl::Domain;
 use lx_text::{List, NoMemory};
 use std::alloc::Global;
 
@@ -21,12 +21,11 @@ fn no_marks(alloc: Global, count: usize) -> Result<Vec<bool>, NoMemory>
 }
 
 /// Marks the signals that the design names as ports.
-fn mark_ios(design: &Design, marks: &mut [bool])
-    requires keeps { Keeps design.now }
-    requires none { marks.old ≡ replicate (length design.now.signals) false }
-    ensures { AreAmong design.now design.now.ios marks.new }
+fn mark_ios(lowered: &Lowered, marks: &mut [bool])
+    requires none { marks.old ≡ replicate (length lowered.now.signals) false }
+    ensures { AreAmong lowered.now lowered.now.ios marks.new }
 {
-    for x in design.ios.as_slice() {
+    for x in lowered.design.ios.as_slice() {
         marks[x.0] = true;
     }
 }
@@ -42,32 +41,29 @@ fn mark_reset(marks: &mut [bool], domain: &Domain)
 }
 
 /// Marks the resets of the domains.
-fn mark_resets(design: &Design, marks: &mut [bool])
-    requires keeps { Keeps design.now }
-    requires ios { AreAmong design.now design.now.ios marks.old }
-    ensures { AreResetsToo design.now design.now.domains marks.new }
+fn mark_resets(lowered: &Lowered, marks: &mut [bool])
+    requires ios { AreAmong lowered.now lowered.now.ios marks.old }
+    ensures { AreResetsToo lowered.now lowered.now.domains marks.new }
 {
-    for domain in design.domains.as_slice() {
+    for domain in lowered.design.domains.as_slice() {
         mark_reset(marks, domain);
     }
 }
 
 /// Marks the ports, and the resets of the domains.
-fn mark_all(design: &Design, marks: &mut [bool])
-    requires keeps { Keeps design.now }
-    requires none { marks.old ≡ replicate (length design.now.signals) false }
-    ensures { AreMarks design.now marks.new }
+fn mark_all(lowered: &Lowered, marks: &mut [bool])
+    requires none { marks.old ≡ replicate (length lowered.now.signals) false }
+    ensures { AreMarks lowered.now marks.new }
 {
-    mark_ios(design, marks);
-    mark_resets(design, marks);
+    mark_ios(lowered, marks);
+    mark_resets(lowered, marks);
 }
 
 /// Whether each signal is a port, or a domain's reset.
-pub fn marks(alloc: Global, design: &Design) -> Result<List<bool>, NoMemory>
-    requires { Keeps design.now }
-    ensures { IfOk result (λ marks. AreMarks design.now marks) }
+pub fn marks(alloc: Global, lowered: &Lowered) -> Result<List<bool>, NoMemory>
+    ensures { IfOk result (λ marks. AreMarks lowered.now marks) }
 {
-    let mut marks = no_marks(alloc, design.signals.len())?;
-    mark_all(design, marks.as_mut_slice());
+    let mut marks = no_marks(alloc, lowered.design.signals.len())?;
+    mark_all(lowered, marks.as_mut_slice());
     Ok(List::from_vec(marks))
 }

@@ -5,7 +5,6 @@ ghost use Rattle.lx_fhdl.specs.Below.{expr_below};
 ghost use Rattle.lx_fhdl.specs.Nodes.{HasParts, node_fault, node_shape};
 ghost use Rattle.lx_width.specs.Width.{NamesBelow, signal_shape};
 ghost use Rattle.lx_fhdl.specs.Designs.{shapes};
-ghost use Rattle.lx_fhdl.specs.Keeping.{Keeps};
 ghost use Rattle.lx_emission.specs.Emits.{CanBeEmitted};
 ghost use Rattle.lx_emission.specs.Naming.{has_net, nets_before};
 ghost use Rattle.lx_emission.specs.Nodes as nodes;
@@ -16,6 +15,7 @@ ghost use Rattle.lx_emit.specs.Plans.{memory_in, net_in, plan};
 ghost use Rattle.lx_emit.specs.Tables.{AreNumbers, AreShapes};
 
 use crate::drives::{Drive, drives};
+use crate::lowered::Lowered;
 use crate::marks::marks;
 use lx_fhdl::{Design, Expr, ExprId, SigId, Signal};
 use lx_num::Shape;
@@ -105,13 +105,12 @@ fn sound_shape(node: &Expr, shapes: &[Shape], signals: &[Signal]) -> Shape
 }
 
 /// The shapes of all expressions.
-pub fn shapes(alloc: Global, design: &Design) -> Result<List<Shape>, NoMemory>
-    requires { Keeps design.now }
-    ensures { IfOk result (λ hs. AreShapes design.now hs) }
+pub fn shapes(alloc: Global, lowered: &Lowered) -> Result<List<Shape>, NoMemory>
+    ensures { IfOk result (λ hs. AreShapes lowered.now hs) }
 {
     let mut shapes = List::new(alloc);
-    for node in design.exprs.as_slice() {
-        let shape = sound_shape(node, shapes.as_slice(), design.signals.as_slice());
+    for node in lowered.design.exprs.as_slice() {
+        let shape = sound_shape(node, shapes.as_slice(), lowered.design.signals.as_slice());
         shapes.push(shape)?;
     }
     Ok(shapes)
@@ -127,10 +126,11 @@ impl<'a> Sheet<'a> {
         requires { CanBeEmitted design.now names.now }
         ensures { IfOk result (λ sheet. sheet ≡ plan design.now names.now) }
     {
-        let shapes = shapes(alloc, design)?;
+        let lowered = Lowered::new(design);
+        let shapes = shapes(alloc, &lowered)?;
         let numbers = numbers(alloc, design)?;
-        let ports = marks(alloc, design)?;
-        let drives = drives(alloc, design, ports.as_slice())?;
+        let ports = marks(alloc, &lowered)?;
+        let drives = drives(alloc, &lowered, ports.as_slice())?;
         Ok(Sheet {
             design,
             names,

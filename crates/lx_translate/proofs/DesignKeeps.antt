@@ -8,7 +8,7 @@ use Rattle.lx_num.specs.Ints.{FitsBits, unsigned}
 use Rattle.lx_num.proofs.Ranges.{fits_pos}
 use Rattle.std.proofs.lemmas.Nat.{pow_pos}
 use Rattle.lx_circuit.specs.Operands.{is_binary}
-use Rattle.lx_circuit.specs.Shapes.{fault_of, too_wide, joined, joined_fault, binary_fault}
+use Rattle.lx_circuit.specs.Shapes.{Shapes, fault_of, too_wide, joined, joined_fault, binary_fault}
 use Rattle.lx_circuit.specs.Statements as statement
 use Rattle.lx_circuit.specs.Statements.{Block}
 use Rattle.lx_circuit.specs.Circuit.{nothing}
@@ -19,7 +19,7 @@ use Rattle.lx_fhdl.specs.Stmts.{node_target, target_at}
 use Rattle.lx_fhdl.specs.Instance.{the_signal, the_expr, the_target, the_stmt}
 use Rattle.lx_fhdl.specs.Designs as design
 use Rattle.lx_fhdl.specs.Designs.{made_of, shapes}
-use Rattle.lx_fhdl.specs.Keeping.{EachOf, NamesThere, TakesOperands, IsSignal, TargetStands, StmtStands, ListStands, ArenasKeep, Keeps, block_depth, is_identifier}
+use Rattle.lx_fhdl.specs.Keeping.{EachOf, HasPlainIndex, NamesThere, TakesOperands, IsSignal, TargetStands, StmtStands, ListStands, ArenasKeep, Keeps, block_depth, is_identifier}
 use Rattle.lx_fhdl.specs.Lowered.{ArePlain, is_no_pick, IsLowered}
 use Rattle.lx_fhdl.specs.declared.exprs.Expr.{Expr}
 use Rattle.lx_fhdl.specs.declared.exprs.SigId.{SigId}
@@ -134,6 +134,12 @@ named : (ss : List Signal) (m k : ℕ) (x : Expr) → length ss ≡ m → NodeAt
 named ss m k _ e (OfSignal lt) = omega arith
 named ss m k _ e (OfNot i p low) = tt
 named ss m k _ e (OfBoth o i j p q low) = tt
+
+-- no word is read
+plain_index : (s : Shapes) (xs : List Expr) (ss : List Signal) (k : ℕ) (x : Expr) → NodeAt ss k x → HasPlainIndex s xs x
+plain_index s xs ss k _ (OfSignal lt) = tt
+plain_index s xs ss k _ (OfNot i p low) = tt
+plain_index s xs ss k _ (OfBoth o i j p q low) = tt
 
 no_pick : (ss : List Signal) (k : ℕ) (x : Expr) → NodeAt ss k x → is_no_pick x ≡ true
 no_pick ss k _ (OfSignal lt) = refl
@@ -259,6 +265,7 @@ arenas_keep f hs hl = record {
   operands = λ k x e. operands f.signals k x (node_is f hl k x e);
   parts = λ k x e. parts f.signals k x (node_is f hl k x e);
   named = λ k x e. named f.signals (length (design_of f).signals) k x (sym (signals_long f)) (node_is f hl k x e);
+  indices = λ k x e. plain_index (shapes (design_of f)) (design_of f).exprs f.signals k x (node_is f hl k x e);
   targets = target_stands f hl;
   target_bits = target_fits f hs hl;
   stmts = stmts_stand f hl;

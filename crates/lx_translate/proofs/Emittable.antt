@@ -16,7 +16,7 @@ use Rattle.lx_fhdl.specs.declared.exprs.Expr.{Expr}
 use Rattle.lx_fhdl.specs.declared.design.Design.{Design}
 use Rattle.lx_emission.specs.Naming.{node_name, is_among, NamesFit}
 use Rattle.lx_emission.specs.Emission.{places_from}
-use Rattle.lx_emission.specs.Emits.{are_once, none_is_reset, PortsFit, HasIndex, MemoriesFit, CanBeEmitted}
+use Rattle.lx_emission.specs.Emits.{are_once, none_is_reset, PortsFit, MemoriesFit, CanBeEmitted}
 use Rattle.lx_form.specs.declared.file.Signal.{Signal}
 use Rattle.lx_form.specs.declared.file.File.{File}
 use Rattle.lx_form.specs.Form.{are_signals, are_lines, width_of}
@@ -90,15 +90,9 @@ ports_fit : (f : File) → PortsFit (design_of f)
 unfolding design_of design.circuit_of
 ports_fit f = record { once = ports_once 0 f.signals; resets = no_reset (map signal_number (map the_signal (places_from 0 f.signals))) }
 
--- no memory is read
-no_fetch : (d : Design) (ss : List Signal) (k : ℕ) (x : Expr) → NodeAt ss k x → HasIndex d x
-no_fetch d ss k _ (OfSignal lt) = tt
-no_fetch d ss k _ (OfNot i p low) = tt
-no_fetch d ss k _ (OfBoth o i j p q low) = tt
-
-memories_fit : (f : File) → are_lines f.signals f.lines ≡ true → MemoriesFit (design_of f)
+memories_fit : (f : File) → MemoriesFit (design_of f)
 unfolding design_of design.circuit_of
-memories_fit f h = record { show_nothing = tt; one_domain = tt; indices = λ k x e. no_fetch (design_of f) f.signals k x (node_is f h k x e) }
+memories_fit f = record { show_nothing = tt; one_domain = tt }
 
 pub can_be_emitted : (f : File) → are_signals f.signals ≡ true → are_lines f.signals f.lines ≡ true → CanBeEmitted (design_of f) (names_of f)
 can_be_emitted f hs hl = record {
@@ -107,5 +101,5 @@ can_be_emitted f hs hl = record {
   order = subst (λ (c : Circuit). HasOrder c) (sym (circuit_is f hs hl)) (has_order f hl);
   named = names_fit f hs;
   ports = ports_fit f;
-  memories = memories_fit f hl;
+  memories = memories_fit f;
 }

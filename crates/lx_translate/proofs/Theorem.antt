@@ -9,6 +9,7 @@ use Rattle.lx_fhdl.specs.Designs as design
 use Rattle.lx_fhdl.specs.declared.design.Design.{Design}
 use Rattle.lx_emission.specs.Naming.{naming, net}
 use Rattle.lx_write.specs.Writes.{CanBeWritten, Writes}
+use Rattle.lx_write.proofs.Written.{written_from_emitted}
 use Rattle.lx_form.specs.declared.file.File.{File}
 use Rattle.lx_form.specs.Form.{is_form}
 use Rattle.lx_translate.specs.FormDesign.{design_of, design_signal}
@@ -38,15 +39,10 @@ gives f m form w =
       agrees = subst (λ (c : Circuit). Agrees c m (naming_of f)) same (subst (λ (n : Naming). Agrees (design.circuit_of (design_of f)) m n) (naming_is f) w.agrees);
     }
 
-no_memories : (f : File) → length (design_of f).memories ≡ 0
-unfolding design_of
-no_memories f = refl
-
 form_can_be_written : (f : File) → IsTrue (is_form f) → CanBeWritten (design_of f) (names_of f)
 form_can_be_written f form =
     let o = form_fits f form in
-    let can = can_be_emitted f o.signals o.lines in
-    record { keeps = can.keeps; order = can.order; named = can.named; ports = can.ports; no_memories = no_memories f }
+    written_from_emitted (design_of f) (names_of f) (can_be_emitted f o.signals o.lines)
 
 pub translation : IsTranslationLaw
 translation f form = record { can = form_can_be_written f form; gives = λ m w. gives f m form w }

@@ -8,10 +8,7 @@ use Rattle.lx_circuit.specs.Reads.{HasOrder}
 use Rattle.lx_vtext.specs.Tree.{Name, VModule}
 use Rattle.lx_agree.specs.Agreement.{Naming, Agrees, HasPorts}
 use Rattle.lx_fhdl.specs.Designs.{circuit_of, memory_of, port_of}
-use Rattle.lx_fhdl.specs.Keeping.{EachOf, IsPort, Keeps, NamesThere}
-use Rattle.lx_fhdl.specs.declared.exprs.Expr.{Expr}
-use Rattle.lx_fhdl.specs.declared.exprs.Expr.TheVariants.{Const, Sig, Unary, Binary, Mux, Cat, Pick, Replicate, Slice, Fetch}
-use Rattle.lx_fhdl.specs.declared.design.Memory.{Memory}
+use Rattle.lx_fhdl.specs.Keeping.{EachOf}
 use Rattle.lx_fhdl.specs.declared.design.Port.{Port}
 use Rattle.lx_fhdl.specs.declared.design.Signal.{Signal}
 use Rattle.lx_fhdl.specs.declared.design.Domain.{Domain}
@@ -19,7 +16,7 @@ use Rattle.lx_fhdl.specs.declared.design.Design.{Design}
 use Rattle.lx_lowering.specs.Lowering.{Lowers, lowered, lowered_domain}
 use Rattle.lx_lower.specs.Lowers.{IsLoweringOf}
 use Rattle.lx_emission.specs.Naming.{net, clock_of, naming, is_among, NamesFit}
-use Rattle.lx_emission.specs.Emits.{are_once, none_is_reset, HasIndex, PortsFit, ShowsNothing, IsWithFirst, MemoriesFit, CanBeEmitted, Emits}
+use Rattle.lx_emission.specs.Emits.{are_once, none_is_reset, PortsFit, ShowsNothing, IsWithFirst, MemoriesFit, CanBeEmitted, Emits}
 use Rattle.lx_write.specs.Writes.{CanBeWritten, Writes}
 use Rattle.lx_write.proofs.Over.{agrees_over, ports_over}
 
@@ -62,34 +59,13 @@ names_fit d e names low fit = record {
   nodes = fit.nodes;
 }
 
--- without memories nothing is read
-no_index : (e : Design) (ms : List Memory) (x : Expr) → length ms ≡ 0 → NamesThere (length e.signals) ms x → HasIndex e x
-no_index e [] (Fetch memory width at) z h = absurd h
-no_index e (m ∷ ms) (Fetch memory width at) z h = absurd (omega arith)
-no_index e ms (Const value bits signed) z h = tt
-no_index e ms (Sig x) z h = tt
-no_index e ms (Unary op of) z h = tt
-no_index e ms (Binary op left right) z h = tt
-no_index e ms (Mux cond then_ else_) z h = tt
-no_index e ms (Cat parts) z h = tt
-no_index e ms (Pick items index) z h = tt
-no_index e ms (Replicate of count) z h = tt
-no_index e ms (Slice of low high) z h = tt
-
--- and no port stands
-no_ports : (d : Design) (qs : List Port) → length d.memories ≡ 0 → EachOf (IsPort d) qs → qs ≡ []
-no_ports d [] z h = refl
-no_ports d (q ∷ qs) z h = absurd (omega (arith, z, h.0.memory))
-
-memories_fit : (e : Design) → Keeps e → length e.memories ≡ 0 → MemoriesFit e
+-- the ports are the same
+memories_fit : (d e : Design) → IsLoweringOf d e → MemoriesFit d → MemoriesFit e
 unfolding circuit_of
-memories_fit e keeps z =
-    let none : map port_of e.ports ≡ [] = ap (map port_of) (no_ports e e.ports z keeps.ports) in
-    record {
-      show_nothing = subst (EachOf ShowsNothing) (sym none) tt;
-      one_domain = subst (λ qs. EachOf (IsWithFirst qs) qs) (sym none) tt;
-      indices = λ k x there. no_index e e.memories x z (keeps.arenas.named k x there);
-    }
+memories_fit d e low fit = record {
+  show_nothing = subst (λ (qs : List Port). EachOf ShowsNothing (map port_of qs)) (sym low.ports) fit.show_nothing;
+  one_domain = subst (λ (qs : List Port). EachOf (IsWithFirst (map port_of qs)) (map port_of qs)) (sym low.ports) fit.one_domain;
+}
 
 pub can_be_emitted : (d e : Design) (names : List Name) → IsLoweringOf d e → CanBeWritten d names → CanBeEmitted e names
 can_be_emitted d e names low can = record {
@@ -98,7 +74,7 @@ can_be_emitted d e names low can = record {
   order = subst HasOrder (sym low.circuit) ((lowers d e low).order can.order);
   named = names_fit d e names low can.named;
   ports = ports_fit d e low can.ports;
-  memories = memories_fit e low.keeps (memories_long d e low ∙ can.no_memories);
+  memories = memories_fit d e low can.memories;
 }
 
 naming_same : (d e : Design) (names : List Name) → IsLoweringOf d e → naming e names ≡ naming d names
@@ -119,6 +95,6 @@ writes d e names m low can emits =
       agrees = agrees_over c m (naming d names) (lowers d e low) can.order agrees;
     }
 
--- a lowered design without memories that can be emitted can be written too
-pub written_from_emitted : (d : Design) (names : List Name) → length d.memories ≡ 0 → CanBeEmitted d names → CanBeWritten d names
-written_from_emitted d names none can = record { keeps = can.keeps; order = can.order; named = can.named; ports = can.ports; no_memories = none }
+-- a lowered design that can be emitted can be written too
+pub written_from_emitted : (d : Design) (names : List Name) → CanBeEmitted d names → CanBeWritten d names
+written_from_emitted d names can = record { keeps = can.keeps; order = can.order; named = can.named; ports = can.ports; memories = can.memories }

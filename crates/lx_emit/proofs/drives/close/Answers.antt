@@ -5,10 +5,10 @@ use Rattle.lx_emit.proofs.drives.close.Goals as goal
 pub loop-x-init : goal.loop-x-init
 loop-x-init c = closed_none _ _
 
-pub close_one-requires-clause-there : goal.close_one-requires-clause-there
-close_one-requires-clause-there c =
+pub close_one-requires : goal.close_one-requires
+close_one-requires c =
     let within : c.loop-x.x < length c.loop-x.drives = omega (arith, c.loop-x.invariant.long) in
-    rw (← c.index-drives-x.is) (there_in _ _ _ _ _ c.requires.there c.loop-x.invariant within c.index-drives-x.is)
+    record { there = rw (← c.index-drives-x.is) (there_in _ _ _ _ _ c.requires.there c.loop-x.invariant within c.index-drives-x.is) }
 
 pub loop-x-preserved : goal.loop-x-preserved
 loop-x-preserved c =

@@ -9,7 +9,7 @@ pub signal_of-signal-requires-clause-place : goal.signal_of-signal-requires-clau
 signal_of-signal-requires-clause-place c = there_at _ c.args.ids.now _ _ c.requires.there c.loop-id-test.true
 
 pub signal_of-signal-requires-clause-plain : goal.signal_of-signal-requires-clause-plain
-signal_of-signal-requires-clause-plain c = plain_at c.args.design.now c.args.ids.now _ _ c.requires.plain c.loop-id-test.true
+signal_of-signal-requires-clause-plain c = plain_at c.args.lowered.now c.args.ids.now _ _ c.requires.plain c.loop-id-test.true
 
 pub loop-id-preserved : goal.loop-id-preserved
 loop-id-preserved c =

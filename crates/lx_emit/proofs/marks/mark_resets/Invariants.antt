@@ -3,4 +3,4 @@ use Rattle.lx_emit.specs.Marks.{AreResetsToo}
 use Rattle.lx_emit.proofs.marks.mark_resets.Given as goal
 
 abbrev pub invariant-loop-domain : goal.invariant-loop-domain
-invariant-loop-domain l = (l.domain-items ≡ l.design.domains) × AreResetsToo l.design (take l.domain-index l.domain-items) l.marks
+invariant-loop-domain l = (l.domain-items ≡ l.lowered.domains) × AreResetsToo l.lowered (take l.domain-index l.domain-items) l.marks
