@@ -10,7 +10,7 @@ use Rattle.lx_circuit.specs.Statements as tree
 use Rattle.lx_fhdl.specs.Below.{StmtId, expr_below, target_below, stmt_below}
 use Rattle.lx_fhdl.specs.Designs as design
 use Rattle.lx_fhdl.specs.Designs.{circuit_of, made_of, shapes}
-use Rattle.lx_fhdl.specs.Drafts.{DraftKeeps, IsDraft, IsDraftPort, HaveDomains, ListsStand, CanAddExpr, CanAddTarget, CanAddStmt, Stays, ExprPut, TargetPut, StmtPut, SignalPut, MemoryPut, PortPut}
+use Rattle.lx_fhdl.specs.Drafts.{DraftKeeps, IsDraft, IsDraftPort, HaveDomains, ListsStand, CanAddExpr, CanAddTarget, CanAddStmt, PartsStay, Stays, ExprPut, TargetPut, StmtPut, SignalPut, MemoryPut, PortPut}
 use Rattle.lx_fhdl.specs.Keeping.{EachOf, IsMemory, IsPort, IsSignal, Keeps, BranchesStand, HasPlainIndex, NamesThere, StmtStands, TakesOperands, TargetStands}
 use Rattle.lx_fhdl.specs.Nodes.{HasParts, IsSmall}
 use Rattle.lx_fhdl.specs.Stmts.{node_stmt, node_target, target_at, stmt_at}
@@ -32,7 +32,7 @@ use Rattle.lx_fhdl.proofs.Arena.{each_child}
 use Rattle.lx_fhdl.proofs.StmtTrees.{stmt_added, stmt_at-is, target_added, target_at-is}
 use Rattle.lx_fhdl.proofs.Trees.{term_added, term_at-is}
 use Rattle.lx_fhdl.proofs.Staying.{HasIndex, HaveIndices, target_kept, stmt_kept}
-use Rattle.lx_fhdl.proofs.Wider.{IsWider, SameShapes, arenas_wider, index_kept, indices_kept, one_of, ports_stand, ports_wider, sizes_stay, stands_kept, wider_memory, wider_same, wider_signal}
+use Rattle.lx_fhdl.proofs.Wider.{Begins, IsWider, SameShapes, arenas_wider, begins_more, begins_same, index_kept, indices_kept, one_of, parts_stay, ports_stand, ports_wider, stands_kept, wider_memory, wider_same, wider_signal}
 
 -- ---- what the nodes of a draft name
 
@@ -58,11 +58,6 @@ stays_same d = record {
   stmt_nodes = λ k l. refl;
   signals_more = omega arith;
   signals = λ k l. refl;
-  memories_more = omega arith;
-  memories = λ k l. refl;
-  ports_more = omega arith;
-  ports = λ k l. refl;
-  sizes = record { signals = λ k l. refl; exprs = λ k l. refl; targets = λ k l. refl };
 }
 
 -- ---- by an expression
@@ -103,11 +98,6 @@ expr_put d x keep node low =
         stmt_nodes = λ k l. refl;
         signals_more = omega arith;
         signals = λ k l. refl;
-        memories_more = omega arith;
-        memories = λ k l. refl;
-        ports_more = omega arith;
-        ports = λ k l. refl;
-        sizes = sizes_stay d (with_expr d x) (wider_same d (with_expr d x) refl refl) keep.arenas added.grows.trees (λ k l. targets_over d x keep node low k);
       };
     }
 
@@ -188,11 +178,6 @@ target_put d x keep node low =
         stmt_nodes = λ k l. refl;
         signals_more = omega arith;
         signals = λ k l. refl;
-        memories_more = omega arith;
-        memories = λ k l. refl;
-        ports_more = omega arith;
-        ports = λ k l. refl;
-        sizes = sizes_stay d (with_target d x) (wider_same d (with_target d x) refl refl) keep.arenas (λ k l. refl) added.grows.trees;
       };
     }
 
@@ -242,11 +227,6 @@ stmt_put d x keep node low =
         stmt_nodes = added.grows.nodes;
         signals_more = omega arith;
         signals = λ k l. refl;
-        memories_more = omega arith;
-        memories = λ k l. refl;
-        ports_more = omega arith;
-        ports = λ k l. refl;
-        sizes = sizes_stay d (record d { stmts = d.stmts ++ x ∷ [] }) (wider_same d (record d { stmts = d.stmts ++ x ∷ [] }) refl refl) keep.arenas (λ k l. refl) (λ k l. refl);
       };
     }
 
@@ -272,21 +252,11 @@ stmt_keeps d x keep node low = record {
 
 -- ---- the signals, memories and ports
 
--- the second list begins with the first
-abbrev Begins : {T : Type 0} → List T → List T → Type 0
-Begins xs ys = (length xs ≤ length ys) × ((k : ℕ) → k < length xs → slice_get ys k ≡ slice_get xs k)
-
-begins_same : {T : Type 0} (xs : List T) → Begins xs xs
-begins_same xs = (omega arith, λ k l. refl)
-
-begins_more : {T : Type 0} (xs : List T) (y : T) → Begins xs (xs ++ y ∷ [])
-begins_more xs y = (omega (arith, one_longer xs y), λ k l. get_front xs (y ∷ []) k l)
-
 abbrev over : Design → List Signal → List Memory → List Port → Design
 over d ss ms qs = record d { signals = ss; memories = ms; ports = qs }
 
-stays_over : (d : Design) (ss : List Signal) (ms : List Memory) (qs : List Port) → DraftKeeps d → IsWider d (over d ss ms qs) → Begins d.signals ss → Begins d.memories ms → Begins d.ports qs → Stays d (over d ss ms qs)
-stays_over d ss ms qs keep w f g h = record {
+stays_over : (d : Design) (ss : List Signal) (ms : List Memory) (qs : List Port) → Begins d.signals ss → Stays d (over d ss ms qs)
+stays_over d ss ms qs f = record {
   exprs = omega arith;
   targets = omega arith;
   stmts = omega arith;
@@ -296,12 +266,10 @@ stays_over d ss ms qs keep w f g h = record {
   stmt_nodes = λ k l. refl;
   signals_more = f.0;
   signals = f.1;
-  memories_more = g.0;
-  memories = g.1;
-  ports_more = h.0;
-  ports = h.1;
-  sizes = sizes_stay d (over d ss ms qs) w keep.arenas (λ k l. refl) (λ k l. refl);
 }
+
+parts_over : (d : Design) (ss : List Signal) (ms : List Memory) (qs : List Port) → DraftKeeps d → IsWider d (over d ss ms qs) → Begins d.signals ss → Begins d.memories ms → Begins d.ports qs → PartsStay d (over d ss ms qs)
+parts_over d ss ms qs keep w f g h = parts_stay d (over d ss ms qs) w keep.arenas (stays_over d ss ms qs f) g h
 
 -- ---- by a signal
 
@@ -312,7 +280,8 @@ pub signal_put : (d : Design) (x : Signal) → IsDraft d → SignalPut d (record
 signal_put d x draft = record {
   is = refl;
   place = refl;
-  stays = stays_over d (d.signals ++ x ∷ []) d.memories d.ports draft.keeps (wider_signal d x) (begins_more d.signals x) (begins_same d.memories) (begins_same d.ports);
+  stays = stays_over d (d.signals ++ x ∷ []) d.memories d.ports (begins_more d.signals x);
+  parts = parts_over d (d.signals ++ x ∷ []) d.memories d.ports draft.keeps (wider_signal d x) (begins_more d.signals x) (begins_same d.memories) (begins_same d.ports);
 }
 
 pub signal_draft : (d : Design) (x : Signal) → IsDraft d → IsSignal x → IsDraft (record d { signals = d.signals ++ x ∷ [] })
@@ -336,7 +305,8 @@ pub memory_put : (d : Design) (x : Memory) → IsDraft d → MemoryPut d (record
 memory_put d x draft = record {
   is = refl;
   place = refl;
-  stays = stays_over d d.signals (d.memories ++ x ∷ []) d.ports draft.keeps (wider_memory d x) (begins_same d.signals) (begins_more d.memories x) (begins_same d.ports);
+  stays = stays_over d d.signals (d.memories ++ x ∷ []) d.ports (begins_same d.signals);
+  parts = parts_over d d.signals (d.memories ++ x ∷ []) d.ports draft.keeps (wider_memory d x) (begins_same d.signals) (begins_more d.memories x) (begins_same d.ports);
 }
 
 pub memory_draft : (d : Design) (x : Memory) → IsDraft d → IsMemory x → IsDraft (record d { memories = d.memories ++ x ∷ [] })
@@ -360,7 +330,8 @@ pub port_put : (d : Design) (q : Port) → IsDraft d → PortPut d (record d { p
 port_put d q draft = record {
   is = refl;
   place = refl;
-  stays = stays_over d d.signals d.memories (d.ports ++ q ∷ []) draft.keeps (wider_same d (with_port d q) refl refl) (begins_same d.signals) (begins_same d.memories) (begins_more d.ports q);
+  stays = stays_over d d.signals d.memories (d.ports ++ q ∷ []) (begins_same d.signals);
+  parts = parts_over d d.signals d.memories (d.ports ++ q ∷ []) draft.keeps (wider_same d (with_port d q) refl refl) (begins_same d.signals) (begins_same d.memories) (begins_more d.ports q);
 }
 
 pub port_draft : (d : Design) (q : Port) → IsDraft d → IsDraftPort d q → IsDraft (record d { ports = d.ports ++ q ∷ [] })
@@ -447,15 +418,6 @@ stays_then x y z g h = record {
   stmt_nodes = λ k l. h.stmt_nodes k (omega (arith, g.stmts)) ∙ g.stmt_nodes k l;
   signals_more = omega (arith, g.signals_more, h.signals_more);
   signals = λ k l. h.signals k (omega (arith, l, g.signals_more)) ∙ g.signals k l;
-  memories_more = omega (arith, g.memories_more, h.memories_more);
-  memories = λ k l. h.memories k (omega (arith, l, g.memories_more)) ∙ g.memories k l;
-  ports_more = omega (arith, g.ports_more, h.ports_more);
-  ports = λ k l. h.ports k (omega (arith, l, g.ports_more)) ∙ g.ports k l;
-  sizes = record {
-    signals = λ k l. h.sizes.signals k (omega (arith, l, g.signals_more)) ∙ g.sizes.signals k l;
-    exprs = λ k l. h.sizes.exprs k (omega (arith, l, g.exprs)) ∙ g.sizes.exprs k l;
-    targets = λ k l. h.sizes.targets k (omega (arith, l, g.targets)) ∙ g.sizes.targets k l;
-  };
 }
 
 -- ---- signals

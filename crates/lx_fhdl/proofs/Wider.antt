@@ -21,7 +21,7 @@ use Rattle.lx_fhdl.specs.Below.{ExprId, TargetId, expr_below, target_below, all_
 use Rattle.lx_fhdl.specs.Designs as design
 use Rattle.lx_fhdl.specs.Designs.{circuit_of, made_of, memory_at, memory_of, shapes}
 use Rattle.lx_fhdl.specs.Keeping.{ArenasKeep, EachOf, HasDomain, HasPlainIndex, IsAddress, IsPort, IsUnsigned, NamesThere, PortStands, TargetStands, WriterStands, is_clocked}
-use Rattle.lx_fhdl.specs.Drafts.{HaveDomains, IsDraftPort, SizesStay, domains_to}
+use Rattle.lx_fhdl.specs.Drafts.{DraftKeeps, HaveDomains, IsDraftPort, PartsStay, Stays, domains_to}
 use Rattle.lx_fhdl.specs.Nodes.{EachChild, EachPlace}
 use Rattle.lx_fhdl.specs.Stmts.{node_target, target_at, targets_at}
 use Rattle.lx_fhdl.specs.Trees.{node_term, term_at, terms_at}
@@ -245,16 +245,47 @@ wider_memory d x = record {
 
 -- ---- what stays
 
-pub sizes_stay : (d e : Design) → IsWider d e → ArenasKeep (shapes d) (length d.signals) d.memories d.exprs d.targets d.stmts
-    → ((k : ℕ) → k < length d.exprs → design.term e k ≡ design.term d k) → ((k : ℕ) → k < length d.targets → design.target e k ≡ design.target d k) → SizesStay d e
-sizes_stay d e w keep terms targets = record {
-  signals = w.arenas.shapes;
-  exprs = λ k l.
-      ap (shape_of (shapes e)) (terms k l)
+-- the second list begins with the first
+abbrev pub Begins : {T : Type 0} → List T → List T → Type 0
+Begins xs ys = (length xs ≤ length ys) × ((k : ℕ) → k < length xs → slice_get ys k ≡ slice_get xs k)
+
+pub begins_same : {T : Type 0} (xs : List T) → Begins xs xs
+begins_same xs = (omega arith, λ k l. refl)
+
+pub begins_more : {T : Type 0} (xs : List T) (y : T) → Begins xs (xs ++ y ∷ [])
+begins_more xs y = (omega (arith, one_longer xs y), λ k l. get_front xs (y ∷ []) k l)
+
+pub parts_stay : (d e : Design) → IsWider d e → ArenasKeep (shapes d) (length d.signals) d.memories d.exprs d.targets d.stmts → Stays d e → Begins d.memories e.memories → Begins d.ports e.ports → PartsStay d e
+parts_stay d e w keep stays f g = record {
+  memories_more = f.0;
+  memories = f.1;
+  ports_more = g.0;
+  ports = g.1;
+  signal_shapes = w.arenas.shapes;
+  expr_shapes = λ k l.
+      ap (shape_of (shapes e)) (stays.terms k l)
       ∙ (same_terms (shapes d) (shapes e) (length d.signals) (length e.signals) d.memories e.memories d.exprs d.targets d.stmts w.arenas keep k l).shape;
-  targets = λ k l.
-      ap (tree.target_bits (shapes e)) (targets k l)
+  target_bits = λ k l.
+      ap (tree.target_bits (shapes e)) (stays.target_trees k l)
       ∙ same_targets (shapes d) (shapes e) (length d.signals) (length e.signals) d.memories e.memories d.exprs d.targets d.stmts w.arenas keep k l;
+}
+
+-- a draft that grows by nodes alone keeps all of this
+pub parts_same : (d e : Design) → DraftKeeps d → Stays d e → e.signals ≡ d.signals → e.memories ≡ d.memories → e.ports ≡ d.ports → PartsStay d e
+parts_same d e keep stays p q r =
+    parts_stay d e (wider_same d e p q) keep.arenas stays
+    (subst (λ (ms : List Memory). Begins d.memories ms) (sym q) (begins_same d.memories))
+    (subst (λ (qs : List Port). Begins d.ports qs) (sym r) (begins_same d.ports))
+
+pub parts_then : (x y z : Design) → Stays x y → PartsStay x y → PartsStay y z → PartsStay x z
+parts_then x y z s g h = record {
+  memories_more = omega (arith, g.memories_more, h.memories_more);
+  memories = λ k l. h.memories k (omega (arith, l, g.memories_more)) ∙ g.memories k l;
+  ports_more = omega (arith, g.ports_more, h.ports_more);
+  ports = λ k l. h.ports k (omega (arith, l, g.ports_more)) ∙ g.ports k l;
+  signal_shapes = λ k l. h.signal_shapes k (omega (arith, l, s.signals_more)) ∙ g.signal_shapes k l;
+  expr_shapes = λ k l. h.expr_shapes k (omega (arith, l, s.exprs)) ∙ g.expr_shapes k l;
+  target_bits = λ k l. h.target_bits k (omega (arith, l, s.targets)) ∙ g.target_bits k l;
 }
 
 -- ---- ports

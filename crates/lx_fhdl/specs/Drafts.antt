@@ -82,13 +82,7 @@ HaveDomains n qs = EachOf (λ (q : Port). domains_to q.domain ≤ n) qs
 
 -- ---- what stays
 
--- the shapes of signals and expressions, and the bits of targets
-pub record SizesStay (old new : Design) : Type 0 where
-  pub signals : (x : ℕ) → x < length old.signals → shapes new x ≡ shapes old x
-  pub exprs : (k : ℕ) → k < length old.exprs → shape_of (shapes new) (design.term new k) ≡ shape_of (shapes old) (design.term old k)
-  pub targets : (k : ℕ) → k < length old.targets → tree.target_bits (shapes new) (design.target new k) ≡ tree.target_bits (shapes old) (design.target old k)
-
--- the trees at all places, the statements' nodes, the signals, memories and ports, and all sizes
+-- the trees at all places, the statements' nodes, and the signals
 pub record Stays (old new : Design) : Type 0 where
   pub exprs : length old.exprs ≤ length new.exprs
   pub targets : length old.targets ≤ length new.targets
@@ -99,11 +93,16 @@ pub record Stays (old new : Design) : Type 0 where
   pub stmt_nodes : (k : ℕ) → k < length old.stmts → slice_get new.stmts k ≡ slice_get old.stmts k
   pub signals_more : length old.signals ≤ length new.signals
   pub signals : (x : ℕ) → x < length old.signals → slice_get new.signals x ≡ slice_get old.signals x
+
+-- the memories and ports, the shapes of signals and expressions, and the bits of targets
+pub record PartsStay (old new : Design) : Type 0 where
   pub memories_more : length old.memories ≤ length new.memories
   pub memories : (m : ℕ) → m < length old.memories → slice_get new.memories m ≡ slice_get old.memories m
   pub ports_more : length old.ports ≤ length new.ports
   pub ports : (j : ℕ) → j < length old.ports → slice_get new.ports j ≡ slice_get old.ports j
-  pub sizes : SizesStay old new
+  pub signal_shapes : (x : ℕ) → x < length old.signals → shapes new x ≡ shapes old x
+  pub expr_shapes : (k : ℕ) → k < length old.exprs → shape_of (shapes new) (design.term new k) ≡ shape_of (shapes old) (design.term old k)
+  pub target_bits : (k : ℕ) → k < length old.targets → tree.target_bits (shapes new) (design.target new k) ≡ tree.target_bits (shapes old) (design.target old k)
 
 -- ---- what was added
 
@@ -131,13 +130,16 @@ pub record SignalPut (old new : Design) (x : Signal) (id : ℕ) : Type 0 where
   pub is : new ≡ record old { signals = old.signals ++ x ∷ [] }
   pub place : id ≡ length old.signals
   pub stays : Stays old new
+  pub parts : PartsStay old new
 
 pub record MemoryPut (old new : Design) (x : Memory) (id : ℕ) : Type 0 where
   pub is : new ≡ record old { memories = old.memories ++ x ∷ [] }
   pub place : id ≡ length old.memories
   pub stays : Stays old new
+  pub parts : PartsStay old new
 
 pub record PortPut (old new : Design) (x : Port) (id : ℕ) : Type 0 where
   pub is : new ≡ record old { ports = old.ports ++ x ∷ [] }
   pub place : id ≡ length old.ports
   pub stays : Stays old new
+  pub parts : PartsStay old new
