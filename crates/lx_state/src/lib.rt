@@ -1,0 +1,17 @@
+//! The values of a running description, the machine that holds them, and the steps that it takes.
+#![tactic(auto)]
+
+pub mod builtins;
+pub mod frames;
+pub mod lists;
+pub mod machine;
+pub mod naming;
+pub mod values;
+pub mod work;
+pub mod worked;
+
+pub use machine::{
+    Binding, Class, DomainState, Form, Frame, Items, Leaves, Machine, Made, MadeArm, Module,
+    ModuleKind, Object, Owner, Pair, Submodule, SyncItem, What,
+};
+pub use values::{Builtin, Method, Value};

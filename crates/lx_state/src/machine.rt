@@ -1,0 +1,220 @@
+//! The machine that holds what a running description has made.
+
+use crate::values::Value;
+use lx_fhdl::{ExprId, SigId, TargetId};
+use lx_names::Table;
+use lx_shaped::Shaped;
+use lx_text::{List, Word};
+use lx_value::Budget;
+
+/// All that a description has made and bound so far.
+#[derive(Drop)]
+pub struct Machine {
+    /// The units of work.
+    pub spent: Budget,
+    /// The expressions and statements that count towards the limit of nodes.
+    pub nodes: u32,
+    /// The classes that were gone through, from the first one on.
+    pub classes: List<Class>,
+    /// The design so far: expressions, targets, statements, signals.
+    pub shaped: Shaped,
+    /// Whose each signal is.
+    pub owners: List<Owner>,
+    /// All that can be named, in order of making.
+    pub objects: List<Object>,
+    pub modules: List<Module>,
+    pub texts: List<Word>,
+    /// The items of lists, tuples and Arrays.
+    pub lists: List<Items>,
+    pub dictionaries: List<List<Pair>>,
+    pub made: List<Made>,
+    /// The clock domains, in order of first mention.
+    pub domains: Table<DomainState>,
+    pub frame: Frame,
+}
+
+/// The names of the `__init__` that runs.
+#[derive(Drop)]
+pub struct Frame {
+    /// Parameters and local names.
+    pub locals: Table<Value>,
+    /// The module that is made; none while a default runs.
+    pub this: Option<usize>,
+    /// How many classes stand above.
+    pub class: usize,
+}
+
+/// A class that was gone through.
+#[derive(Drop)]
+pub struct Class {
+    pub name: Word,
+    pub kind: ModuleKind,
+    /// The default of each parameter, where it has one.
+    pub defaults: List<Option<Value>>,
+}
+
+/// What the bases of a class make of its modules.
+#[derive(Clone, Copy)]
+pub enum ModuleKind {
+    Plain,
+    /// Binding a module to an attribute adds it.
+    Lite,
+    /// A system's top, where binding adds too.
+    Soc,
+}
+
+/// The items of a list, a tuple or an Array. They never change; what is noted beside them says what hangs in it, in
+/// lists within lists too.
+#[derive(Drop)]
+pub struct Items {
+    pub values: List<Value>,
+    /// The levels of lists and tuples, itself counted.
+    pub depth: u8,
+    /// What hangs in it.
+    pub leaves: Leaves,
+    /// The nodes of the statements that hang in it, counted as far as one past the limit.
+    pub size: u32,
+    /// The binding by which it named its items.
+    pub named: Binding,
+}
+
+/// What hangs in a list.
+#[derive(Clone, Copy)]
+pub enum Leaves {
+    Nothing,
+    /// Statements alone.
+    Statements,
+    /// Modules alone.
+    Modules,
+    /// Something else, or things of several kinds.
+    Others,
+}
+
+/// By what something has a name; a later one of these goes before an earlier one.
+#[derive(Clone, Copy)]
+pub enum Binding {
+    Nowhere,
+    Local,
+    Attribute,
+}
+
+/// A key of a dictionary with its value.
+#[derive(Clone, Copy)]
+pub struct Pair {
+    pub key: Value,
+    pub value: Value,
+}
+
+/// What can be named.
+#[derive(Drop)]
+pub struct Object {
+    pub what: What,
+    /// The line of the call that made it.
+    pub line: u32,
+    /// The module in whose `__init__` it was made.
+    pub maker: Option<usize>,
+    /// `name=`.
+    pub given: Option<Word>,
+    /// The name of its first binding to an attribute.
+    pub by_attribute: Option<Word>,
+    /// The name of its first binding to a local name.
+    pub by_local: Option<Word>,
+}
+
+/// What an object is.
+#[derive(Clone, Copy)]
+pub enum What {
+    Signal(SigId),
+    Module(usize),
+}
+
+/// Whose a signal is: an object's own, or a part of one.
+#[derive(Drop)]
+pub struct Owner {
+    pub object: usize,
+    pub part: Option<Word>,
+}
+
+/// A module and its fragment.
+#[derive(Drop)]
+pub struct Module {
+    pub object: usize,
+    pub class: usize,
+    pub kind: ModuleKind,
+    pub attributes: Table<Value>,
+    /// Its combinatorial statements.
+    pub comb: List<usize>,
+    /// Its synchronous statements.
+    pub sync: List<SyncItem>,
+    pub submodules: List<Submodule>,
+    /// The module that it was added to.
+    pub added: Option<usize>,
+    /// How many modules may still stand above it.
+    pub room: u8,
+}
+
+/// A statement that was added to a clock domain.
+#[derive(Clone, Copy)]
+pub struct SyncItem {
+    pub domain: usize,
+    pub made: usize,
+}
+
+/// A module that was added, and whether by a name.
+#[derive(Clone, Copy)]
+pub struct Submodule {
+    pub module: usize,
+    pub named: bool,
+}
+
+/// A clock domain that was mentioned.
+#[derive(Clone, Copy)]
+pub struct DomainState {
+    /// Whether a `ClockDomain` has declared it.
+    pub declared: bool,
+    /// Whether it has a reset.
+    pub reset: bool,
+}
+
+/// A statement of FHDL, and what it counts.
+#[derive(Drop)]
+pub struct Made {
+    pub form: Form,
+    pub line: u32,
+    /// Its nodes.
+    pub size: u32,
+    /// The levels of statements and targets in it.
+    pub depth: u8,
+}
+
+/// The form of a statement.
+#[derive(Drop)]
+pub enum Form {
+    Assign {
+        target: TargetId,
+        value: ExprId,
+    },
+    /// `If`, or an `Elif` after the statement before.
+    If {
+        before: Option<usize>,
+        cond: ExprId,
+        body: List<usize>,
+    },
+    /// `Else` after the statement before.
+    Else {
+        before: usize,
+        body: List<usize>,
+    },
+    Case {
+        on: ExprId,
+        arms: List<MadeArm>,
+        rest: List<usize>,
+    },
+}
+
+/// A key of a `Case` with its statements.
+#[derive(Drop)]
+pub struct MadeArm {
+    pub key: i128,
+    pub body: List<usize>,
+}
