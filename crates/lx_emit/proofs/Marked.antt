@@ -11,7 +11,7 @@ use Rattle.lx_fhdl.specs.declared.exprs.SigId.{SigId}
 use Rattle.lx_fhdl.specs.declared.design.Domain.{Domain}
 use Rattle.lx_fhdl.specs.declared.design.Design.{Design}
 use Rattle.lx_emit.specs.Marks.{AreMarksOf, AreAmong, AreMarks, AreResetsToo, IsMarkedToo, is_marked, some_reset}
-use Rattle.lx_emit.proofs.Counted.{item_there}
+use Rattle.lx_width.proofs.Ends.{item_there}
 use Rattle.lx_emit.proofs.Owners.{port_is}
 use Rattle.lx_emit.proofs.Resets.{each_of, reset_there}
 

@@ -6,16 +6,14 @@ use Rattle.std.proofs.lemmas.List.{append-nil, get_or-set_same, get_or-set_other
 use Rattle.std.proofs.Math.Seq.{drop-cons}
 use Rattle.lx_circuit.specs.Statements.{drives, drives_block}
 use Rattle.lx_circuit.specs.Circuit as circuit
-use Rattle.lx_circuit.specs.Memories as memory
 use Rattle.lx_circuit.specs.Circuit.{Role, Input, Comb, Sync, Read, Undriven, nothing, role, sync_role, read_role, idle_role, is_named}
 use Rattle.lx_fhdl.specs.Below.{ExprId, StmtId, all_stmts_below}
 use Rattle.lx_fhdl.specs.Designs.{stmt, block, stmts_of, signal_number, made_of, domains_from, circuit_of, shapes}
-use Rattle.lx_fhdl.specs.Keeping.{EachOf, PartStands, Keeps}
+use Rattle.lx_fhdl.specs.Keeping.{EachOf, Keeps}
 use Rattle.lx_fhdl.specs.Lowered.{IsPlain, ArePlain, IsLowered, is_for}
 use Rattle.lx_fhdl.specs.declared.stmts.Stmt.{Stmt}
 use Rattle.lx_fhdl.specs.declared.stmts.Stmt.TheVariants as statement
 use Rattle.lx_fhdl.specs.declared.design.Signal.{Signal}
-use Rattle.lx_fhdl.specs.declared.design.SyncPart.{SyncPart}
 use Rattle.lx_fhdl.specs.declared.design.Domain.{Domain}
 use Rattle.lx_fhdl.specs.declared.design.Design.{Design}
 use Rattle.lx_emission.specs.Emission.{is_port}
@@ -31,7 +29,7 @@ use Rattle.lx_emit.specs.declared.drives.Drive.{Drive}
 use Rattle.lx_emit.specs.declared.drives.Drive.TheVariants as now
 use Rattle.lx_emit.specs.Drives.{AllAreThere, AreClocked, AreClosed, AreClosedTo, AreDrives, AreFilled, AreIdle, HaveNoBlock, IsThere, IsPlainDrive, block_of, block_or, clocked_from, clocked_or, closed, drive_at, drive_of, equal_or, idle_drive, is_block, is_input, with_stmt}
 use Rattle.lx_emit.specs.Marks.{AreMarks, some_reset}
-use Rattle.lx_emit.proofs.Counted.{at_front, at_last}
+use Rattle.lx_width.proofs.Ends.{at_front, at_last}
 use Rattle.lx_emit.proofs.Operands.{index_is, place_within}
 use Rattle.lx_emit.proofs.Plain.{for_drives}
 

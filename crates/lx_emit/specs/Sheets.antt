@@ -2,11 +2,12 @@
 use Rattle.std.specs.Prelude.{◌≡◌, ◌+◌, length}
 use Rattle.lx_fhdl.specs.Keeping.{Keeps}
 use Rattle.lx_fhdl.specs.Lowered.{IsLowered}
+use Rattle.lx_width.specs.Shapes.{AreShapes}
 use Rattle.lx_emission.specs.Emits.{MemoriesFit}
 use Rattle.lx_emit.specs.Drives.{AreDrives}
 use Rattle.lx_emit.specs.Marks.{AreMarks}
 use Rattle.lx_emit.specs.Plans.{Plan, plan}
-use Rattle.lx_emit.specs.Tables.{AreNumbers, AreShapes}
+use Rattle.lx_emit.specs.Tables.{AreNumbers}
 use Rattle.lx_emit.specs.declared.tables.Sheet.TheInside.{Inside}
 
 abbrev pub plan_of : Inside → Plan

@@ -1,23 +1,16 @@
 -- What is counted once for all nodes of a design, and trees that are put into an arena.
 use Rattle.std.specs.Prelude.{◌≡◌, ℕ, ◌<◌, List, length, slice_index_or, Some, IsTrue}
-use Rattle.lx_num.specs.declared.Shape.{Shape}
 use Rattle.lx_arena.specs.Folds.{Hangs}
 use Rattle.lx_vtext.specs.Tree as tree
 use Rattle.lx_vtree.specs.declared.nodes.VExpr.{VExpr}
 use Rattle.lx_vtree.specs.Below.{Ref, are_below}
 use Rattle.lx_vtree.specs.Trees.{tree_at, plants}
 use Rattle.lx_vtree.specs.Growth.{Grows}
-use Rattle.lx_fhdl.specs.Nodes.{shape_at}
 use Rattle.lx_fhdl.specs.declared.exprs.Expr.{Expr}
 use Rattle.lx_fhdl.specs.declared.design.Design.{Design}
 use Rattle.lx_emission.specs.Naming.{nets_before}
 use Rattle.lx_emission.specs.Nodes.{node_shape, node_text_of}
 use Rattle.lx_emit.specs.Plans.{Plan, memory_in, operand_in}
-
--- the shapes of all nodes
-pub record AreShapes (d : Design) (shapes : List Shape) : Type 0 where
-  pub long : length shapes ≡ length d.exprs
-  pub each : (k : ℕ) → k < length d.exprs → shape_at shapes k ≡ node_shape d k
 
 -- the numbers of all nodes' nets: how many nodes before a node have nets
 pub record AreNumbers (d : Design) (numbers : List ℕ) : Type 0 where

@@ -1,9 +1,6 @@
 //! What is counted once for all nodes of a design.
 
-ghost use Rattle.std.specs.Prelude.{◌≡◌, ◌<◌, ◌+◌, ◌^◌, suc, None, length, IfOk, IsTrue, if◌then◌else◌};
-ghost use Rattle.lx_fhdl.specs.Below.{expr_below};
-ghost use Rattle.lx_fhdl.specs.Nodes.{HasParts, node_fault, node_shape};
-ghost use Rattle.lx_width.specs.Width.{NamesBelow, signal_shape};
+ghost use Rattle.std.specs.Prelude.{◌≡◌, ◌<◌, ◌+◌, ◌^◌, suc, length, IfOk, if◌then◌else◌};
 ghost use Rattle.lx_fhdl.specs.Designs.{shapes};
 ghost use Rattle.lx_emission.specs.Emits.{CanBeEmitted};
 ghost use Rattle.lx_emission.specs.Naming.{has_net, nets_before};
@@ -12,15 +9,15 @@ ghost use Rattle.lx_emission.specs.Emission.{is_port};
 ghost use Rattle.lx_emission.specs.Signals.{drive};
 ghost use Rattle.lx_emit.specs.Drives.{IsPlainDrive, IsThere, drive_of};
 ghost use Rattle.lx_emit.specs.Plans.{memory_in, net_in, plan};
-ghost use Rattle.lx_emit.specs.Tables.{AreNumbers, AreShapes};
+ghost use Rattle.lx_emit.specs.Tables.{AreNumbers};
 
 use crate::drives::{Drive, drives};
 use crate::lowered::Lowered;
 use crate::marks::marks;
-use lx_fhdl::{Design, Expr, ExprId, SigId, Signal};
+use lx_fhdl::{Design, Expr, ExprId, SigId};
 use lx_num::Shape;
 use lx_text::{List, NoMemory, Word};
-use lx_width::node_shape;
+use lx_width::expr_shapes;
 use std::alloc::Global;
 use std::marker::Model;
 
@@ -90,32 +87,6 @@ pub fn numbers(alloc: Global, design: &Design) -> Result<List<usize>, NoMemory>
     Ok(numbers)
 }
 
-// The shape of a node that has no fault.
-fn sound_shape(node: &Expr, shapes: &[Shape], signals: &[Signal]) -> Shape
-    requires children { IsTrue (expr_below node.now (length shapes.now)) }
-    requires signal { NamesBelow (length signals.now) node.now }
-    requires parts { HasParts node.now }
-    requires sound { node_fault shapes.now node.now ≡ None }
-    ensures { result ≡ node_shape (signal_shape signals.now) shapes.now node.now }
-{
-    match node_shape(node, shapes, signals) {
-        Ok(shape) => shape,
-        Err(_) => unreachable!(),
-    }
-}
-
-/// The shapes of all expressions.
-pub fn shapes(alloc: Global, lowered: &Lowered) -> Result<List<Shape>, NoMemory>
-    ensures { IfOk result (λ hs. AreShapes lowered.now hs) }
-{
-    let mut shapes = List::new(alloc);
-    for node in lowered.design.exprs.as_slice() {
-        let shape = sound_shape(node, shapes.as_slice(), lowered.design.signals.as_slice());
-        shapes.push(shape)?;
-    }
-    Ok(shapes)
-}
-
 impl<'a> Sheet<'a> {
     /// The sheet of a lowered design.
     pub fn new(
@@ -127,7 +98,7 @@ impl<'a> Sheet<'a> {
         ensures { IfOk result (λ sheet. sheet ≡ plan design.now names.now) }
     {
         let lowered = Lowered::new(design);
-        let shapes = shapes(alloc, &lowered)?;
+        let shapes = expr_shapes(alloc, design)?;
         let numbers = numbers(alloc, design)?;
         let ports = marks(alloc, &lowered)?;
         let drives = drives(alloc, &lowered, ports.as_slice())?;
@@ -168,6 +139,7 @@ pub fn shape_of_signal(sheet: &Sheet, x: SigId) -> Shape
 }
 
 /// The shape of an expression.
+#[tactic(auto, unfolding(lx_emission::specs::Nodes::node_shape))]
 pub fn shape_at(sheet: &Sheet, id: ExprId) -> Shape
     requires { id.place < length sheet.now.design.exprs }
     ensures { result ≡ nodes.node_shape sheet.now.design id.place }

@@ -18,6 +18,5 @@ pub mod Pieces
 pub mod Plains
 pub mod Puts
 pub mod Reading
-pub mod Shaped
 pub mod Sound
 pub mod Under

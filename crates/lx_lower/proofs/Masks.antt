@@ -9,7 +9,7 @@ use Rattle.lx_num.specs.declared.Shape.{Shape}
 use Rattle.lx_arena.specs.Lower.{EachLower}
 use Rattle.lx_arena.proofs.Places.{by_places, get_front, get_last, lower_at, node_there, one_longer}
 use Rattle.lx_circuit.specs.Places.{Place, Values, At, Word, Kept}
-use Rattle.lx_circuit.specs.Shapes.{Shapes, constant_fault, fault_of, shape_of, too_wide}
+use Rattle.lx_circuit.specs.Shapes.{Shapes, constant_fault, shape_of, too_wide}
 use Rattle.lx_circuit.specs.declared.WidthFault.TheVariants.{BadWidth}
 use Rattle.lx_circuit.specs.Terms as term
 use Rattle.lx_circuit.specs.Terms.{Term, Terms, MoreTerms}
@@ -28,10 +28,10 @@ use Rattle.lx_fhdl.proofs.Meanings.{values_stand}
 use Rattle.lx_fhdl.proofs.Trees.{term_at-is}
 use Rattle.lx_lowering.specs.Constants.{names_none, zeros}
 use Rattle.lx_lower.specs.Fixed.{AreFree, AreValued, IsFixed, IsMask, all_free, free_at, mask_node, node_free}
-use Rattle.lx_lower.specs.Sources.{AreShapes}
 use Rattle.lx_lower.proofs.Conditions.{narrow}
 use Rattle.lx_lower.proofs.Freedom.{Tells, node_tells}
-use Rattle.lx_lower.proofs.Shaped.{Sized, fault_same, shape_same}
+use Rattle.lx_width.specs.Shapes.{AreShapes}
+use Rattle.lx_width.proofs.Shaped.{children, node_sound, shape_is}
 use Rattle.lx_lower.proofs.Sound.{shape_small, sound}
 
 -- ---- the arena that is filled
@@ -184,10 +184,10 @@ mask_shaped d free hs ys h = record {
         let low = h.keeps.arenas.exprs_lower in
         let l = slice_get_within d.exprs k x at in
         let own = sym (free_is d free hs ys k x h at) ∙ f in
-        let children = each_child (Sized s (term_at d.exprs) hs) k x (λ j i. sym (h.shapes.each j (omega arith))) (lower_at expr_below d.exprs low k x at) in
+        let known = children d k hs x h.keeps (λ j i. h.shapes.each j (omega arith)) at in
         record {
-          shaped = own_shape s (shape_at hs k) hs x (h.shapes.each k l ∙ ap (shape_of s) (term_at-is d.exprs low k x at) ∙ shape_same s (term_at d.exprs) hs x children);
-          sound = fault_same s (term_at d.exprs) hs x children (ap (fault_of s) (sym (term_at-is d.exprs low k x at)) ∙ h.keeps.arenas.shaped k l);
+          shaped = own_shape s (shape_at hs k) hs x (h.shapes.each k l ∙ ap (shape_of s) (term_at-is d.exprs low k x at) ∙ shape_is s (term_at d.exprs) hs x known);
+          sound = node_sound d k hs x h.keeps known at;
           parts = h.keeps.arenas.parts k x at;
           no_fetch = no_fetch free x own;
           signal = no_signal free (shape_at hs k) x own;

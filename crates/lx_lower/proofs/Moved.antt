@@ -41,7 +41,7 @@ use Rattle.lx_lower.specs.declared.operands.Operand.{Operand}
 use Rattle.lx_lower.proofs.Choices.{all_keep, items_keep}
 use Rattle.lx_arena.proofs.Places.{lower_at, one_longer, places_more}
 use Rattle.lx_lower.proofs.Sound.{ExprsAreSound, ExprIsSound, all_wider, arenas, item_sound, node_keeps, put_is, same_shapes, sound, term_keeps}
-use Rattle.lx_lower.proofs.Shaped.{at_front, at_last}
+use Rattle.lx_width.proofs.Ends.{at_front, at_last}
 
 -- the lowered trees of the first expressions of olds hang in news at these places
 pub record AreMoved (s : Shapes) (olds news : List Expr) (places : List ExprId) : Type 0 where

@@ -1,7 +1,8 @@
 -- The expressions of a design, lowered, and the places where they hang.
 use Rattle.std.specs.Prelude.{◌≡◌, length}
 use Rattle.lx_fhdl.specs.declared.design.Design.{Design}
-use Rattle.lx_lower.specs.Sources.{AreShapes, IsLowered, Read}
+use Rattle.lx_width.specs.Shapes.{AreShapes}
+use Rattle.lx_lower.specs.Sources.{IsLowered, Read}
 use Rattle.lx_lower.specs.declared.exprs.LoweredExprs.{LoweredExprs}
 
 abbrev pub read : Design → LoweredExprs → Read

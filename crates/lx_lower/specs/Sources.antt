@@ -7,25 +7,18 @@ use Rattle.lx_fhdl.specs.Designs.{shapes, term}
 use Rattle.lx_fhdl.specs.Drafts.{CanAddExpr}
 use Rattle.lx_fhdl.specs.Instance.{the_expr}
 use Rattle.lx_fhdl.specs.Keeping.{Keeps}
-use Rattle.lx_fhdl.specs.Nodes.{HasParts, node_fault, shape_at}
 use Rattle.lx_fhdl.specs.Trees.{terms_at}
 use Rattle.lx_fhdl.specs.declared.design.Design.{Design}
-use Rattle.lx_fhdl.specs.declared.design.Signal.{Signal}
 use Rattle.lx_fhdl.specs.declared.exprs.Expr.{Expr}
 use Rattle.lx_fhdl.specs.declared.exprs.Expr.TheVariants.{Const, Sig, Unary, Binary, Mux, Cat, Pick, Replicate, Slice, Fetch}
 use Rattle.lx_lowering.specs.Terms.{lower_term}
-use Rattle.lx_width.specs.Width.{NamesBelow}
+use Rattle.lx_width.specs.Shapes.{AreShapes}
 
 -- a design, the shapes of its expressions, and the new places of the first ones
 pub record Read : Type 0 where
   pub design : Design
   pub shapes : List Shape
   pub places : List ExprId
-
--- the shapes of all expressions
-pub record AreShapes (d : Design) (hs : List Shape) : Type 0 where
-  pub long : length hs ≡ length d.exprs
-  pub each : (k : ℕ) → k < length d.exprs → shape_at hs k ≡ shape_of (shapes d) (term d k)
 
 pub record IsRead (r : Read) : Type 0 where
   pub keeps : Keeps r.design
@@ -46,13 +39,6 @@ pub record IsLowered (r : Read) (d : Design) : Type 0 where
 pub record IsNext (r : Read) (x : Expr) : Type 0 where
   pub below : IsTrue (expr_below x (length r.places))
   pub sound : CanAddExpr r.design x
-
--- a node over expressions with these shapes, without a fault
-pub record IsSoundNode (signals : List Signal) (hs : List Shape) (x : Expr) : Type 0 where
-  pub below : IsTrue (expr_below x (length hs))
-  pub named : NamesBelow (length signals) x
-  pub parts : HasParts x
-  pub sound : node_fault hs x ≡ None
 
 -- ---- expressions
 

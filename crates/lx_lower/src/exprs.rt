@@ -20,12 +20,12 @@ use crate::conds::{push_binary, push_constant, push_item_test};
 use crate::copies::{copied_memories, copied_signals};
 use crate::operands::Operand;
 use crate::plain::PlainDraft;
-use crate::shapes::expr_shapes;
 use crate::source::Source;
 use lx_fhdl::{Design, Expr, ExprId};
 use lx_num::{Shape, wrap};
 use lx_tables::Op;
 use lx_text::{List, NoMemory};
+use lx_width::expr_shapes;
 use std::alloc::Global;
 
 /// The lowered expressions of a design.

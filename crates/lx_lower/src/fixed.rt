@@ -6,11 +6,11 @@ ghost use Rattle.lx_fhdl.specs.Drafts.{DraftKeeps};
 ghost use Rattle.lx_fhdl.specs.Nodes.{IsShaped};
 ghost use Rattle.lx_lower.specs.Fixed.{AreFree, AreValued, IsFixed, IsMask, all_free, free_at, mask_node, node_free};
 
-use crate::shapes::expr_shapes;
 use lx_arena::Id;
 use lx_fhdl::{Design, Expr, ExprId, Exprs, Steps, eval_into};
 use lx_num::Shape;
 use lx_text::{List, NoMemory};
+use lx_width::expr_shapes;
 use std::alloc::Global;
 use std::marker::{Brand, PhantomData};
 use std::sync::ledger::{Blank, Ledger};

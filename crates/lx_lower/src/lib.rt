@@ -17,7 +17,6 @@ pub mod operands;
 pub mod owned;
 pub mod parts;
 pub mod plain;
-pub mod shapes;
 pub mod source;
 pub mod whole;
 

@@ -17,11 +17,12 @@ use Rattle.lx_fhdl.specs.declared.stmts.Stmt.{Stmt}
 use Rattle.lx_fhdl.specs.declared.stmts.Target.{Target}
 use Rattle.lx_width.specs.Width.{node_result, shape_of_one}
 use Rattle.lx_shaped.specs.Making.{judged, unless, expr_stands, expr_fault, expr_shape, shape_made, make_expr, target_in, target_fault, target_width, make_target, stmt_in, make_stmt}
-use Rattle.lx_shaped.specs.Sizes.{HasShapes}
+use Rattle.lx_width.specs.Shapes.{AreShapes}
 use Rattle.lx_shaped.specs.declared.outcome.Outcome.TheVariants.{Made, Faulty, Misplaced}
 use Rattle.lx_shaped.proofs.Additions.{can_add_expr, can_add_target, expr_stands-is}
 use Rattle.lx_shaped.proofs.Outcomes.{IsMade, judged_made, other_made, other_faulty, other_misplaced, not_there, there_faulty, unless_ok, unless_err, judged_ok, judged_err}
-use Rattle.lx_shaped.proofs.Reading.{node_is, signal_is}
+use Rattle.lx_width.proofs.Shaped.{signal_is}
+use Rattle.lx_shaped.proofs.Reading.{node_is}
 
 -- ---- the shape of an expression
 
@@ -29,11 +30,11 @@ pub shape_misplaced : (x : Expr) (d : Design) → expr_stands x d ≡ false → 
 unfolding shape_made
 shape_misplaced x d e = sym (ap (λ (b : Bool). judged b (expr_fault x d) (expr_shape x d)) e)
 
-pub shape_ok : (x : Expr) (d : Design) (hs : List Shape) (a : Shape) → DraftKeeps d → HasShapes d hs → expr_stands x d ≡ true → Ok a ≡ node_result d.signals hs x → Made a ≡ shape_made x d
+pub shape_ok : (x : Expr) (d : Design) (hs : List Shape) (a : Shape) → DraftKeeps d → AreShapes d hs → expr_stands x d ≡ true → Ok a ≡ node_result d.signals hs x → Made a ≡ shape_made x d
 unfolding shape_made
 shape_ok x d hs a keep h b e = sym (judged_ok (expr_stands x d) (expr_fault x d) (expr_shape x d) a b (sym (node_is d hs x keep h (expr_stands-is x d b).below) ∙ sym e))
 
-pub shape_err : (x : Expr) (d : Design) (hs : List Shape) (g : WidthFault) → DraftKeeps d → HasShapes d hs → expr_stands x d ≡ true → Err g ≡ node_result d.signals hs x → Faulty g ≡ shape_made x d
+pub shape_err : (x : Expr) (d : Design) (hs : List Shape) (g : WidthFault) → DraftKeeps d → AreShapes d hs → expr_stands x d ≡ true → Err g ≡ node_result d.signals hs x → Faulty g ≡ shape_made x d
 unfolding shape_made
 shape_err x d hs g keep h b e = sym (judged_err (expr_stands x d) (expr_fault x d) (expr_shape x d) g b (sym (node_is d hs x keep h (expr_stands-is x d b).below) ∙ sym e))
 

@@ -1,7 +1,5 @@
 -- The shapes and bits that are kept, while the draft grows.
-use Rattle.std.proofs.Common.{◌≡◌, false, ℕ, zero, suc, ◌+◌, ◌<◌, List, [], ◌∷◌, ◌++◌, length, refl, sym, ap, ◌∙◌, arith, inl, inr}
-use Rattle.std.specs.Prelude.{slice_index_or}
-use Rattle.std.proofs.lemmas.Bool.{cases_lt}
+use Rattle.std.proofs.Common.{◌≡◌, false, ℕ, ◌+◌, ◌<◌, List, [], ◌∷◌, ◌++◌, length, refl, sym, ap, ◌∙◌, arith}
 use Rattle.lx_num.specs.declared.Shape.{Shape}
 use Rattle.lx_num.specs.Ints.{shape}
 use Rattle.lx_arena.proofs.Places.{one_longer}
@@ -18,34 +16,12 @@ use Rattle.lx_fhdl.specs.declared.exprs.Expr.{Expr}
 use Rattle.lx_fhdl.specs.declared.stmts.Stmt.{Stmt}
 use Rattle.lx_fhdl.specs.declared.stmts.Target.{Target}
 use Rattle.lx_shaped.specs.Making.{expr_shape, target_width}
-use Rattle.lx_shaped.specs.Sizes.{HasShapes, HasBits, HasSizes, bits_at}
-
--- ---- lists that grow at the end
-
-at_front : {T : Type 0} (xs : List T) (x : T) (k : ℕ) (d : T) → k < length xs → slice_index_or (xs ++ x ∷ []) k d ≡ slice_index_or xs k d
-at_front [] x k d h = absurd (omega arith)
-at_front (y ∷ ys) x zero d h = refl
-at_front (y ∷ ys) x (suc k) d h = at_front ys x k d (omega arith)
-
-at_last : {T : Type 0} (xs : List T) (x : T) (d : T) → slice_index_or (xs ++ x ∷ []) (length xs) d ≡ x
-at_last [] x d = refl
-at_last (y ∷ ys) x d = at_last ys x d
-
--- what is known of each place, with a place more
-each_then : {T : Type 0} (xs : List T) (x d : T) (f : ℕ → T) (n : ℕ) → length xs ≡ n → ((k : ℕ) → k < n → slice_index_or xs k d ≡ f k) → x ≡ f n → (k : ℕ) → k < n + 1 → slice_index_or (xs ++ x ∷ []) k d ≡ f k
-each_then xs x d f n long each e k l =
-    elim (cases_lt k n) [
-      | inl p ↦ at_front xs x k d (omega (arith, long)) ∙ each k p
-      | inr p ↦
-          let q : k ≡ length xs = omega (arith, long) in
-          let r : n ≡ k = omega arith in
-          ap (λ (j : ℕ). slice_index_or (xs ++ x ∷ []) j d) q ∙ at_last xs x d ∙ e ∙ ap f r
-    ]
-
--- ---- a node more
+use Rattle.lx_width.specs.Shapes.{AreShapes}
+use Rattle.lx_width.proofs.Ends.{one_more}
+use Rattle.lx_shaped.specs.Sizes.{HasBits, HasSizes, bits_at}
 
 -- nodes that stay have their shapes and bits
-exprs_stay : (old new : Design) (hs : List Shape) → shapes new ≡ shapes old → Stays old new → length new.exprs ≡ length old.exprs → HasShapes old hs → HasShapes new hs
+exprs_stay : (old new : Design) (hs : List Shape) → shapes new ≡ shapes old → Stays old new → length new.exprs ≡ length old.exprs → AreShapes old hs → AreShapes new hs
 exprs_stay old new hs e stays n h = record {
   long = h.long ∙ sym n;
   each = λ k l.
@@ -83,7 +59,7 @@ sizes_expr old new x id hs more bs a h put m e =
         long = ap length m ∙ one_longer hs a ∙ ap (λ (n : ℕ). n + 1) h.exprs.long ∙ sym longer;
         each = λ k l.
             ap (λ (xs : List Shape). shape_at xs k) m
-            ∙ each_then hs a (shape 0 false) (λ j. shape_of (shapes new) (design.term new j)) (length old.exprs) h.exprs.long
+            ∙ one_more hs a (shape 0 false) (λ j. shape_of (shapes new) (design.term new j)) (length old.exprs) h.exprs.long
             (λ j p. h.exprs.each j p ∙ ap (λ (s : Shapes). shape_of s (design.term old j)) (sym same) ∙ ap (shape_of (shapes new)) (sym (put.stays.terms j p)))
             (e ∙ ap (λ (s : Shapes). shape_of s (node_term (design.term old) x)) (sym same) ∙ ap (shape_of (shapes new)) (sym last))
             k (omega (arith, longer));
@@ -102,7 +78,7 @@ sizes_target old new x id hs bs more a h put m e =
         long = ap length m ∙ one_longer bs a ∙ ap (λ (n : ℕ). n + 1) h.targets.long ∙ sym longer;
         each = λ k l.
             ap (λ (xs : List ℕ). bits_at xs k) m
-            ∙ each_then bs a 0 (λ j. target_bits (shapes new) (design.target new j)) (length old.targets) h.targets.long
+            ∙ one_more bs a 0 (λ j. target_bits (shapes new) (design.target new j)) (length old.targets) h.targets.long
             (λ j p. h.targets.each j p ∙ ap (λ (s : Shapes). target_bits s (design.target old j)) (sym same) ∙ ap (target_bits (shapes new)) (sym (put.stays.target_trees j p)))
             (e ∙ ap (λ (s : Shapes). target_bits s (node_target (design.term old) (design.target old) x)) (sym same) ∙ ap (target_bits (shapes new)) (sym last))
             k (omega (arith, longer));

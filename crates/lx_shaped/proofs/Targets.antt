@@ -18,7 +18,7 @@ use Rattle.lx_fhdl.specs.declared.stmts.Target.TheVariants as target
 use Rattle.lx_width.specs.Width.{shape_of_one}
 use Rattle.lx_shaped.specs.Making.{target_in, target_width}
 use Rattle.lx_shaped.specs.Sizes.{HasBits, bits_at, most_at, node_bits, sum_at}
-use Rattle.lx_shaped.proofs.Reading.{signal_is}
+use Rattle.lx_width.proofs.Shaped.{signal_is}
 
 pub part_there : (n : ℕ) (parts : List TargetId) (k : ℕ) (d : TargetId) → all_targets_below n parts ≡ true → k < length parts → (get_or parts k d).place < n
 part_there n [] k d h l = absurd (omega arith)

@@ -9,10 +9,13 @@ ghost use Rattle.lx_fhdl.specs.Nodes.{HasParts, shape_at, shapes_at};
 ghost use Rattle.lx_width.specs.Width.{NamesBelow, node_result, shaped, signal_shape};
 ghost use Rattle.lx_width.specs.Worked.{AreWorked};
 
+mod shapes;
+
 use lx_circuit::WidthFault;
 use lx_fhdl::{Expr, ExprId, SigId, Signal};
 use lx_num::Shape;
 use lx_tables::Op;
+pub use shapes::expr_shapes;
 
 /// A width before it is known to be one of at most 127 bits.
 #[derive(Clone, Copy)]

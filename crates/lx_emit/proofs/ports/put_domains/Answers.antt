@@ -1,5 +1,5 @@
 use Rattle.std.proofs.Common.{arith}
-use Rattle.lx_emit.proofs.Counted.{item_there}
+use Rattle.lx_width.proofs.Ends.{item_there}
 use Rattle.lx_emit.proofs.Lines.{next_piece, domain_next}
 use Rattle.lx_emit.proofs.ports.put_domains.Goals as goal
 

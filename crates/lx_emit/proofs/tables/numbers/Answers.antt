@@ -1,5 +1,6 @@
 use Rattle.std.proofs.Common.{arith}
-use Rattle.lx_emit.proofs.Counted.{item_there, numbers_none, numbers_more}
+use Rattle.lx_width.proofs.Ends.{item_there}
+use Rattle.lx_emit.proofs.Counted.{numbers_none, numbers_more}
 use Rattle.lx_emit.proofs.tables.numbers.Goals as goal
 
 pub loop-node-init : goal.loop-node-init

@@ -1,9 +1,9 @@
 use Rattle.std.proofs.Common.{◌≡◌, ◌+◌, ◌∙◌, ap, length, arith}
 use Rattle.std.specs.Prelude.{Some, slice_get}
 use Rattle.lx_arena.proofs.Places.{one_longer}
+use Rattle.lx_width.proofs.Ends.{item_there}
 use Rattle.lx_lower.specs.Sources.{IsRead}
 use Rattle.lx_lower.proofs.Moved.{none_lowered, more_lowered, next_node}
-use Rattle.lx_lower.proofs.Shaped.{item_there}
 use Rattle.lx_lower.proofs.Sound.{arenas}
 use Rattle.lx_lower.proofs.exprs.lower_exprs.Goals as goal
 

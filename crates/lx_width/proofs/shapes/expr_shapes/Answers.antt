@@ -1,6 +1,7 @@
 use Rattle.std.proofs.Common.{ap, length, arith}
-use Rattle.lx_lower.proofs.Shaped.{item_there, shapes_none, next_sound, shapes_more, all_shapes}
-use Rattle.lx_lower.proofs.shapes.expr_shapes.Goals as goal
+use Rattle.lx_width.proofs.Ends.{item_there}
+use Rattle.lx_width.proofs.Shaped.{shapes_none, next_sound, shapes_more, all_shapes}
+use Rattle.lx_width.proofs.shapes.expr_shapes.Goals as goal
 
 pub loop-node-init : goal.loop-node-init
 loop-node-init c = record { items = c.as_slice-node-items.ensures; shapes = rw c.new-shapes.ensures (shapes_none _) }

@@ -1,15 +1,15 @@
-//! The shapes of a design's expressions.
+//! The shapes of all expressions of a design.
 
 ghost use Rattle.std.specs.Prelude.{◌≡◌, IfOk};
 ghost use Rattle.lx_fhdl.specs.Drafts.{DraftKeeps};
 ghost use Rattle.lx_fhdl.specs.Nodes.{node_shape};
+ghost use Rattle.lx_width.specs.Shapes.{AreShapes, IsSoundNode};
 ghost use Rattle.lx_width.specs.Width.{signal_shape};
-ghost use Rattle.lx_lower.specs.Sources.{AreShapes, IsSoundNode};
 
+use crate::node_shape;
 use lx_fhdl::{Design, Expr, Signal};
 use lx_num::Shape;
 use lx_text::{List, NoMemory};
-use lx_width::node_shape;
 use std::alloc::Global;
 
 /// The shape of a node that has no fault.
