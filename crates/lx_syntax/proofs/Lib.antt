@@ -1,2 +1,15 @@
-pub mod Programming
+pub mod Flats
+pub mod Hanging
+pub mod Splitting
 pub mod Standing
+pub mod Trailing
+pub mod Bracketing
+pub mod Blocking
+pub mod Classing
+pub mod Programming
+pub mod Counting
+pub mod Arming
+pub mod Wording
+pub mod Simply
+pub mod Looping
+pub mod Answering

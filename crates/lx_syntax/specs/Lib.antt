@@ -2,5 +2,12 @@ pub mod Ast
 pub mod Convert
 pub mod Classes
 pub mod Forms
-pub mod Programs
+pub mod Forming
+pub mod Says
 pub mod Worked
+pub mod Trails
+pub mod Brackets
+pub mod Blocks
+pub mod Classing
+pub mod Programs
+pub mod Heads
