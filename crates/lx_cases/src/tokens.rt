@@ -1,6 +1,7 @@
 //! The tokens of a text, as they are shown.
 
-use lx_text::{NoMemory, Refusal, Text, fault_line};
+use lx_faults::fault_line;
+use lx_text::{NoMemory, Refusal, Text};
 use lx_token::tokens::{Token, TokenKind, tokens};
 use std::alloc::Global;
 

@@ -4,7 +4,8 @@
 //! and `loop LINE NAME ..` for the line of a fault; `copy WORD` for a copy of a word, and the code of its second byte.
 
 use crate::reading::{answer, answer_number, byte, cut, number, whole, words};
-use lx_text::{Fault, Kind, LimitKind, NoMemory, Text, Word, fault_line};
+use lx_faults::fault_line;
+use lx_text::{Fault, Kind, LimitKind, NoMemory, Text, Word};
 use std::alloc::Global;
 
 /// Answers a question of texts; false where it is none.

@@ -1,8 +1,9 @@
 //! A case is placed, and what comes of it is shown.
 
 use lx_alloc::{are_distinct, are_sized, place};
+use lx_faults::fault_line;
 use lx_fhdl::{Placement, Wishes};
-use lx_text::{NoMemory, Refusal, Text, fault_line};
+use lx_text::{NoMemory, Refusal, Text};
 use std::alloc::Global;
 
 /// The origins of the regions, the numbers of the banks and those of the interrupts, or the line of the fault.

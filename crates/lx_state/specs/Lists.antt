@@ -2,7 +2,7 @@
 use Rattle.std.specs.Prelude.{◌≡◌, ℕ, ℤ, suc, ◌+◌, min, max, nat_lt, if◌then◌else◌, List, [], ◌∷◌, ◌++◌, length, slice_get, Option, Some, None, option_map}
 use Rattle.lx_text.specs.declared.faults.LimitKind.TheVariants as limit
 use Rattle.lx_text.specs.declared.faults.Kind.TheVariants as kind
-use Rattle.lx_text.specs.FaultLine.{limit_number}
+use Rattle.lx_text.specs.Limits.{limit_number}
 use Rattle.lx_state.specs.declared.values.Value.{Value}
 use Rattle.lx_state.specs.declared.values.Value.TheVariants as value
 use Rattle.lx_state.specs.declared.machine.Binding.TheVariants as binding

@@ -3,7 +3,7 @@ use Rattle.std.specs.Prelude.{◌≡◌, ℕ, ◌+◌, nat_lt, if◌then◌else�
 use Rattle.lx_text.specs.declared.faults.LimitKind.{LimitKind}
 use Rattle.lx_text.specs.declared.faults.LimitKind.TheVariants as limit
 use Rattle.lx_text.specs.declared.faults.Kind.TheVariants as kind
-use Rattle.lx_text.specs.FaultLine.{limit_number}
+use Rattle.lx_text.specs.Limits.{limit_number}
 use Rattle.lx_state.specs.declared.machine.Machine.{Machine}
 use Rattle.lx_state.specs.Step.{Step, give, fault, ◌>>=◌}
 

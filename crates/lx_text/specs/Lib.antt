@@ -1,2 +1,2 @@
-pub mod FaultLine
 pub mod Hex
+pub mod Limits

@@ -5,6 +5,6 @@ pub mod faults;
 pub mod lists;
 pub mod texts;
 
-pub use faults::{Fault, Kind, LimitKind, MAX_BYTES, Refusal, fault_line};
+pub use faults::{Fault, Kind, LimitKind, MAX_BYTES, Refusal};
 pub use lists::{List, NoMemory, Word};
 pub use texts::Text;

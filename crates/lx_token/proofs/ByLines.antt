@@ -6,7 +6,7 @@ use Rattle.lx_text.specs.declared.faults.Refusal.{Refusal}
 use Rattle.lx_text.specs.declared.faults.Refusal.TheVariants as refusal
 use Rattle.lx_token.specs.Pieces.{pieces_of}
 use Rattle.lx_token.specs.Lines.{lines_of, before_lines, logical, first_tab}
-use Rattle.lx_text.specs.FaultLine.{max_bytes}
+use Rattle.lx_text.specs.Limits.{max_bytes}
 use Rattle.lx_token.specs.Tokens.{Nested, Cut, Line, indented, go_on, with_token, with_tokens, line_tokens, line_of, nested_line, ending_tokens, all_lines, last_newline, tokens_of, Tokenized}
 use Rattle.lx_token.specs.Machine.{Gives, blank, tab_in, line_end, put_token, begin_line, take_piece, take_all, last_line, finished}
 use Rattle.lx_token.specs.declared.tokens.Token.{Token}

@@ -6,7 +6,7 @@ use Rattle.lx_text.specs.declared.faults.Kind.TheVariants as fault
 use Rattle.lx_token.specs.Lexemes.{lexeme_of, lexeme_len}
 use Rattle.lx_token.specs.Pieces.{formed, placed, cut, pieces_of, open_behind, line_ends, token_at, fault_at, most_open}
 use Rattle.lx_token.specs.Lines.{first_tab, lines_of}
-use Rattle.lx_text.specs.FaultLine.{max_bytes}
+use Rattle.lx_text.specs.Limits.{max_bytes}
 use Rattle.lx_token.specs.Tokens.{Nested, dedents, closed, nested, indented, innermost, levels_within, most_levels, go_on, ending_tokens, all_lines, last_newline, tokens_of}
 use Rattle.lx_token.specs.Machine.{blank, tab_in, line_end, put_token, begin_line, take_piece, take_all, last_line, finished}
 use Rattle.lx_token.specs.Slices.{Makes, IsPiece, IsMark, AreSlices, TokensAreSlices}

@@ -5,7 +5,7 @@ use Rattle.lx_text.specs.declared.faults.Fault.{Fault}
 use Rattle.lx_text.specs.declared.faults.Kind.TheVariants as fault
 use Rattle.lx_text.specs.declared.faults.Refusal.{Refusal}
 use Rattle.lx_text.specs.declared.faults.Refusal.TheVariants as refusal
-use Rattle.lx_text.specs.FaultLine.{max_bytes}
+use Rattle.lx_text.specs.Limits.{max_bytes}
 use Rattle.lx_token.specs.Pieces.{fault_at, token_at, line_ends, pieces_of}
 use Rattle.lx_token.specs.Lines.{Logical, lines_of, logical}
 use Rattle.lx_token.specs.declared.tokens.Token.{Token}

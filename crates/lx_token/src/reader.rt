@@ -4,7 +4,7 @@ ghost use Rattle.std.specs.Prelude.{◌≡◌, ◌+◌, ◌<◌, ◌≤◌, leng
 ghost use Rattle.lx_token.specs.Lexemes.{lexeme_of, lexeme_len, IsWithin};
 ghost use Rattle.lx_token.specs.Pieces.{pieces_of};
 ghost use Rattle.lx_token.specs.Machine.{Gives, take_all};
-ghost use Rattle.lx_text.specs.FaultLine.{max_bytes};
+ghost use Rattle.lx_text.specs.Limits.{max_bytes};
 ghost use Rattle.lx_token.specs.Tokens.{last_newline};
 
 use crate::lexemes::{Lexeme, lexeme_at};

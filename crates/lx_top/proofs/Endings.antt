@@ -2,7 +2,7 @@
 use Rattle.std.proofs.Common.{◌≡◌, ℕ, suc, ◌≤◌, ◌<◌, List, [], ◌∷◌, ◌++◌, Option, Some, None, Result, Ok, Err, refl, sym, ap, ◌∙◌, subst, length, take, drop, get_or, codes, inl, inr, ◌⊎◌, arith, take-append-drop, drop-cons}
 use Rattle.std.proofs.lemmas.List.{take_all}
 use Rattle.lx_text.specs.declared.faults.Fault.{Fault}
-use Rattle.lx_text.specs.FaultLine.{max_bytes}
+use Rattle.lx_text.specs.Limits.{max_bytes}
 use Rattle.lx_outside.specs.declared.calls.Pair.{Pair}
 use Rattle.lx_outside.specs.Calls.{Loads, Rose, Gains, StoresPart}
 use Rattle.lx_outside.specs.declared.calls.LoadFault.{LoadFault}

@@ -2,8 +2,8 @@
 use Rattle.std.specs.Prelude.{◌≡◌, ℕ, ◌≤◌, List, length, Option, Result, Ok, Err, ◌⊎◌}
 use Rattle.lx_outside.specs.declared.calls.Pair.{Pair}
 use Rattle.lx_outside.specs.Calls.{Rose}
-use Rattle.lx_text.specs.FaultLine.{line_text}
-use Rattle.lx_text.specs.FaultLine.{max_bytes}
+use Rattle.lx_faults.specs.FaultLine.{line_text}
+use Rattle.lx_text.specs.Limits.{max_bytes}
 use Rattle.lx_top.specs.declared.making.Texts.{Texts}
 use Rattle.lx_top.specs.declared.making.Stop.{Stop}
 use Rattle.lx_top.specs.declared.making.Stop.TheVariants as stop

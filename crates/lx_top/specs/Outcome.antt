@@ -3,7 +3,7 @@ use Rattle.std.specs.Prelude.{◌≡◌, ℕ, ◌≤◌, ◌<◌, List, [], ◌�
 use Rattle.lx_outside.specs.declared.calls.Pair.{Pair}
 use Rattle.lx_outside.specs.Calls.{Rose, file_of, Gains, SaysPart, StoresPart}
 use Rattle.lx_text.specs.declared.faults.Fault.{Fault}
-use Rattle.lx_text.specs.FaultLine.{line_text}
+use Rattle.lx_faults.specs.FaultLine.{line_text}
 use Rattle.lx_top.specs.declared.status.Status.{Status}
 use Rattle.lx_top.specs.declared.status.Status.TheVariants as status
 use Rattle.lx_top.specs.Commands.{Asked, command_of}

@@ -1,6 +1,6 @@
 -- The table of commands.
 use Rattle.std.specs.Prelude.{◌≡◌, ℕ, List, [], ◌∷◌}
-use Rattle.lx_text.specs.FaultLine.{max_bytes}
+use Rattle.lx_text.specs.Limits.{max_bytes}
 use Rattle.lx_top.specs.Commands.{Asked, Build, command_word}
 use Rattle.lx_top.specs.Lines.{not_built}
 use Rattle.lx_top.specs.Meaning.{Meaning, Built}

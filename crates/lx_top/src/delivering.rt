@@ -8,8 +8,9 @@ ghost use Rattle.lx_top.specs.Making.{IsReport};
 use crate::lines::{Line, say_line, tell};
 use crate::making::{Stop, Texts};
 use crate::status::Status;
+use lx_faults::fault_line;
 use lx_outside::{Console, Sink};
-use lx_text::{NoMemory, fault_line};
+use lx_text::NoMemory;
 use std::alloc::Global;
 
 /// Stores the files in their order, and then says the text where it isn't empty. The first failure ends the run.

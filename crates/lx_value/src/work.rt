@@ -2,7 +2,7 @@
 
 ghost use Rattle.std.specs.Prelude.{◌≡◌, ◌+◌, ◌≤◌, ◌↔◌, IsTrue};
 ghost use Rattle.std.specs.Bool.{OnTrue, OnFalse};
-ghost use Rattle.lx_text.specs.FaultLine.{limit_number};
+ghost use Rattle.lx_text.specs.Limits.{limit_number};
 
 use lx_text::LimitKind;
 use lx_text::faults::greatest;
@@ -16,7 +16,7 @@ pub struct Budget {
 
 impl Model for Budget {
     ghost use Rattle.std.specs.Prelude.{ℕ, ◌≤◌};
-    ghost use Rattle.lx_text.specs.FaultLine.{limit_number};
+    ghost use Rattle.lx_text.specs.Limits.{limit_number};
     ghost use Rattle.lx_text.specs.declared.faults.LimitKind.TheVariants as limit;
 
     ghost Value = { ℕ };

@@ -2,15 +2,12 @@
 use Rattle.std.specs.Prelude.{ℕ, Bool, List, ◌++◌, [], flat_map, codes, if◌then◌else◌}
 use Rattle.std.specs.Fmt.{decimal}
 use Rattle.lx_text.specs.Hex.{hex_text}
+use Rattle.lx_text.specs.Limits.{limit_number, max_bytes}
 use Rattle.lx_text.specs.declared.faults.Fault.{Fault}
 use Rattle.lx_text.specs.declared.faults.Kind.{Kind}
 use Rattle.lx_text.specs.declared.faults.Kind.TheVariants as kind
 use Rattle.lx_text.specs.declared.faults.LimitKind.{LimitKind}
 use Rattle.lx_text.specs.declared.faults.LimitKind.TheVariants as limit
-
--- the most bytes of a description, a trace or a script
-abbrev pub max_bytes : ℕ
-max_bytes = 1048576
 
 abbrev pub limit_name : LimitKind → List ℕ
 limit_name limit.Work = codes "Work"
@@ -26,22 +23,6 @@ limit_name limit.MemoryWords = codes "MemoryWords"
 limit_name limit.Regions = codes "Regions"
 limit_name limit.Sources = codes "Sources"
 limit_name limit.Name = codes "Name"
-
--- the greatest number that is allowed
-abbrev pub limit_number : LimitKind → ℕ
-limit_number limit.Work = 1000000
-limit_number limit.Nodes = 262144
-limit_number limit.Depth = 64
-limit_number limit.Signals = 65536
-limit_number limit.Modules = 4096
-limit_number limit.Items = 1024
-limit_number limit.States = 256
-limit_number limit.Domains = 16
-limit_number limit.Memories = 1024
-limit_number limit.MemoryWords = 131072
-limit_number limit.Regions = 64
-limit_number limit.Sources = 32
-limit_number limit.Name = 64
 
 abbrev pub name_of : Kind → List ℕ
 name_of kind.NotYetBuilt = codes "NotYetBuilt"
