@@ -2,6 +2,7 @@
 use Rattle.std.proofs.Common.{◌≡◌, ℕ, ℤ, pos, Bool, true, false, Option, Some, None, ◌<◌, ◌^◌, ◌/◌, ◌&&◌, ◌||◌, [], ◌∷◌, cond, nat_eq, nat_lt, zero, suc, refl, sym, ◌∙◌, ap, ap₂, subst, arith}
 use Rattle.std.proofs.lemmas.Bool.{and_parts, eqb-true, ne_eqb, cond-true}
 use Rattle.std.proofs.Math.Bool.{or-false}
+use Rattle.std.proofs.lemmas.Option.{same_Some}
 use Rattle.lx_num.specs.Ints.{unsigned, modulo, wrapped, Fits}
 use Rattle.lx_num.proofs.Ranges.{fits_pos, wrap_bits_same}
 use Rattle.lx_circuit.specs.Places.{Place, Values, At, Word, Kept}
@@ -26,14 +27,11 @@ to (Word m k) = Some (Word m k)
 to (Kept zero) = Some (At 4)
 to (Kept (suc j)) = None
 
-some_same : {A : Type 0} {a b : A} → Some a ≡ Some b → a ≡ b
-some_same e = cc
-
 matches : (s t : Values) → ((m k : ℕ) → s (Word m k) ≡ t (Word m k)) → s (Kept 0) ≡ t (At 4) → Matches to s t
 unfolding to
 matches s t words kept (At x) q e = absurd cc
-matches s t words kept (Word m k) q e = subst (λ r. s (Word m k) ≡ t r) (some_same e) (words m k)
-matches s t words kept (Kept zero) q e = subst (λ r. s (Kept 0) ≡ t r) (some_same e) kept
+matches s t words kept (Word m k) q e = subst (λ r. s (Word m k) ≡ t r) (same_Some _ _ e) (words m k)
+matches s t words kept (Kept zero) q e = subst (λ r. s (Kept 0) ≡ t r) (same_Some _ _ e) kept
 matches s t words kept (Kept (suc j)) q e = absurd cc
 
 -- ---- orders and shapes

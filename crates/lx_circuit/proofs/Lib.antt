@@ -8,5 +8,6 @@ pub mod Locality
 pub mod Orders
 pub mod Runs
 pub mod Settle
+pub mod Values
 pub mod Views
 pub mod Whole

@@ -16,12 +16,13 @@ use Rattle.lx_circuit.specs.declared.WidthFault.TheVariants.{BadSlice, BadWidth}
 use Rattle.lx_circuit.specs.Shapes.{joined, bits_sum, some_signed, widest, pick_shape, unary_shape, too_wide, index_fault, constant_fault, replicate_fault, slice_fault}
 use Rattle.lx_circuit.specs.Places.{Word}
 use Rattle.lx_circuit.specs.Values.{cat_pattern, count_of}
+use Rattle.lx_circuit.proofs.Values.{cat_below}
 use Rattle.lx_fhdl.specs.Below.{ExprId, all_below, expr_below}
 use Rattle.lx_fhdl.specs.Keeping.{EachOf}
 use Rattle.lx_fhdl.specs.Nodes.{IsSmall, EachPlace, EachChild, HasParts, FitsSignal, IsNode, IsShaped, IsFit, IsKnown, shape_at, shapes_at, value_at, values_at, listed, node_shape, node_fault, node_value}
 use Rattle.lx_fhdl.specs.declared.exprs.Expr.{Expr}
 use Rattle.lx_fhdl.specs.declared.exprs.Expr.TheVariants.{Const, Sig, Unary, Binary, Mux, Cat, Pick, Replicate, Slice, Fetch}
-use Rattle.lx_fhdl.proofs.Items.{EachFits, sum_some, widest_some, cat_below, items_fit}
+use Rattle.lx_fhdl.proofs.Items.{EachFits, sum_some, widest_some, items_fit}
 use Rattle.lx_fhdl.proofs.Fitting.{fits_copies, fits_field, fits_mux, fits_zero}
 use Rattle.lx_fhdl.proofs.Operators.{binary_fits, binary_small, unary_fits, unary_some, joined_some, not_wide, none_right, by_none}
 

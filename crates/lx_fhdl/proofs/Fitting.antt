@@ -1,11 +1,11 @@
 -- The values of operators fit their shapes.
-use Rattle.std.proofs.Common.{◌≡◌, ℕ, ◌+◌, ◌-◌, ◌*◌, ◌/◌, ◌^◌, ◌<◌, ◌≤◌, Bool, true, false, ◌||◌, refl, ◌∙◌, ap, arith, zero, suc, neg_ℤ}
+use Rattle.std.proofs.Common.{◌≡◌, ℕ, ◌+◌, ◌-◌, ◌*◌, ◌/◌, ◌^◌, ◌<◌, ◌≤◌, Bool, true, false, ◌||◌, refl, ◌∙◌, ap, arith, neg_ℤ}
 use Rattle.std.specs.Prelude.{ℤ, pos, negsuc, ◌+ℤ◌, ◌-ℤ◌, ◌*ℤ◌, bit_and, bit_or, bit_xor}
 use Rattle.std.specs.Int.RustNames.{unsigned_abs}
 use Rattle.std.proofs.Math.Nat.{pow-le-pow_right, two-pow-succ}
 use Rattle.std.proofs.lemmas.Bool.{false≢true, cond_both, or_left, or_right}
 use Rattle.std.proofs.lemmas.Int.{ints, unsigned_abs-mul}
-use Rattle.std.proofs.lemmas.Nat.{pow_pos, pow_below, pow-add, mul-le, mul-lt, mul-add-lt, shl_below, shr_le, or_lt, xor_lt, and_le_l}
+use Rattle.std.proofs.lemmas.Nat.{pow_pos, pow_below, pow-add, mul-le, mul-lt, shl_below, shr_le, or_lt, xor_lt, and_le_l}
 use borrow.Author.Differences.{up, down}
 use Rattle.lx_num.specs.declared.Shape.{Shape}
 use Rattle.lx_num.specs.Ints.{modulo, floor_div, FitsBits, Fits, unsigned, field_of}
@@ -15,6 +15,7 @@ use Rattle.lx_num.proofs.Ints.{modulo-below, halves}
 use Rattle.lx_num.proofs.Ranges.{fits_unsigned, unsigned_fits, fits_signed, signed_fits, fits_pos, pos_fits, negative_fits, fits_wider, fits_as_signed}
 use Rattle.lx_circuit.specs.Shapes.{extra, joined_bits, joined}
 use Rattle.lx_circuit.specs.Values.{flag, count_of, is_zero, mux_value, copies, replicate_value}
+use Rattle.lx_circuit.proofs.Values.{copies_below}
 
 -- a signed value by its magnitude
 pub fits_from_magnitude : (n : ℕ) (z : ℤ) → magnitude_of z < 2 ^ (n - 1) → FitsBits n true z
@@ -201,14 +202,8 @@ pub fits_mux : (a b : Shape) (c x y : ℤ) → Fits a x → Fits b y → Fits (j
 fits_mux a b c x y f g =
     cond_both (is_zero c) y x (λ z. Fits (joined a b) z) (λ _. fits_right a b y g) (λ _. fits_left a b x f)
 
-pub copies-below : (n bits p : ℕ) → p < 2 ^ bits → copies n bits p < 2 ^ (n * bits)
-copies-below zero bits p h = pow_pos (zero * bits)
-copies-below (suc n) bits p h =
-    let e : 2 ^ (suc n * bits) ≡ 2 ^ (n * bits) * 2 ^ bits = ap (λ (k : ℕ). 2 ^ k) (omega arith) ∙ pow-add 2 (n * bits) bits in
-    omega (arith, mul-add-lt (copies n bits p) (2 ^ bits) p (2 ^ (n * bits)) (copies-below n bits p h) h)
-
 pub fits_copies : (a : Shape) (count : ℕ) (x : ℤ) → Fits (unsigned (count * a.bits)) (replicate_value a count x)
-fits_copies a count x = fits_pos (count * a.bits) (copies count a.bits (modulo x (2 ^ a.bits))) (copies-below count a.bits (modulo x (2 ^ a.bits)) (modulo-below x (2 ^ a.bits) (pow_pos a.bits)))
+fits_copies a count x = fits_pos (count * a.bits) (copies count a.bits (modulo x (2 ^ a.bits))) (copies_below count a.bits (modulo x (2 ^ a.bits)) (modulo-below x (2 ^ a.bits) (pow_pos a.bits)))
 
 pub fits_field : (x : ℤ) (low len : ℕ) → FitsBits len false (pos (field_of x low len))
 fits_field x low len = fits_pos len (field_of x low len) (modulo-below (floor_div x (2 ^ low)) (2 ^ len) (pow_pos len))

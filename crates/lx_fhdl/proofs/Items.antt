@@ -1,14 +1,12 @@
 -- Lists of shapes, and of values that fit them.
-use Rattle.std.proofs.Common.{◌≡◌, ℕ, ◌^◌, ◌<◌, ◌≤◌, Bool, true, List, [], ◌∷◌, length, arith, zero, suc}
+use Rattle.std.proofs.Common.{◌≡◌, ℕ, ◌<◌, ◌≤◌, Bool, true, List, [], ◌∷◌, length, arith, zero, suc}
 use Rattle.std.specs.Prelude.{ℤ}
 use Rattle.std.proofs.lemmas.Bool.{or_left, or_right}
-use Rattle.std.proofs.lemmas.Nat.{pow_pos, pow-add, mul-add-lt}
 use Rattle.lx_num.specs.declared.Shape.{Shape}
-use Rattle.lx_num.specs.Ints.{modulo, FitsBits, Fits}
-use Rattle.lx_num.proofs.Ints.{modulo-below}
+use Rattle.lx_num.specs.Ints.{FitsBits, Fits}
 use Rattle.lx_num.proofs.Ranges.{fits_wider}
 use Rattle.lx_circuit.specs.Shapes.{joined_bits, bits_sum, some_signed, widest}
-use Rattle.lx_circuit.specs.Values.{cat_pattern, nth_or_last}
+use Rattle.lx_circuit.specs.Values.{nth_or_last}
 use Rattle.lx_fhdl.specs.Keeping.{EachOf}
 use Rattle.lx_fhdl.specs.Nodes.{IsSmall}
 use Rattle.lx_fhdl.proofs.Fitting.{fits_joined}
@@ -26,14 +24,6 @@ sum_some (a ∷ as_) h s = omega (arith, s.0.some)
 pub widest_some : (some : Bool) (as_ : List Shape) → 0 < length as_ → EachOf IsSmall as_ → 1 ≤ widest some as_
 widest_some some [] h s = absurd (omega arith)
 widest_some some (a ∷ as_) h s = omega (arith, s.0.some)
-
--- parts side by side
-pub cat_below : (as_ : List Shape) (zs : List ℤ) → cat_pattern as_ zs < 2 ^ bits_sum as_
-cat_below [] zs = omega arith
-cat_below (a ∷ as_) [] = pow_pos (bits_sum (a ∷ as_))
-cat_below (a ∷ as_) (z ∷ zs) =
-    let p = mul-add-lt (cat_pattern as_ zs) (2 ^ a.bits) (modulo z (2 ^ a.bits)) (2 ^ bits_sum as_) (cat_below as_ zs) (modulo-below z (2 ^ a.bits) (pow_pos a.bits)) in
-    omega (arith, p, pow-add 2 a.bits (bits_sum as_))
 
 -- the item at a place, or the last one, fits the shape of all items joined
 pub items_fit : (some : Bool) (w : ℕ) (as_ : List Shape) (zs : List ℤ) (z : ℤ) (n : ℕ) → FitsBits w some z → widest some as_ ≤ w → (some_signed as_ ≡ true → some ≡ true) → EachFits as_ zs → FitsBits w some (nth_or_last z zs n)

@@ -37,7 +37,7 @@ use Rattle.lx_fhdl.specs.declared.design.SyncPart.{SyncPart}
 use Rattle.lx_fhdl.specs.declared.design.Design.{Design}
 
 -- a test of each item
-each_of : {T : Type 0} (P : T → Type 0) (test : T → Bool) (xs : List T) → ((x : T) → test x ≡ true → P x) → list_all test xs ≡ true → EachOf P xs
+pub each_of : {T : Type 0} (P : T → Type 0) (test : T → Bool) (xs : List T) → ((x : T) → test x ≡ true → P x) → list_all test xs ≡ true → EachOf P xs
 each_of P test [] f h = tt
 each_of P test (x ∷ xs) f h = let p = and_parts _ _ h in (f x p.0, each_of P test xs f p.1)
 
@@ -56,7 +56,7 @@ has_width-is : (width : ℕ) (o : Option Memory) → has_width width o ≡ true 
 has_width-is width (Some m) h = eqb-true width m.width h
 has_width-is width None h = absurd (cc)
 
-names_there-is : (n : ℕ) (ms : List Memory) (x : Expr) → names_there n ms x ≡ true → NamesThere n ms x
+pub names_there-is : (n : ℕ) (ms : List Memory) (x : Expr) → names_there n ms x ≡ true → NamesThere n ms x
 names_there-is n ms (Const value bits signed) h = tt
 names_there-is n ms (Sig x) h = ltb-true x.0 n h
 names_there-is n ms (Unary op of) h = tt
@@ -68,7 +68,7 @@ names_there-is n ms (Replicate of count) h = tt
 names_there-is n ms (Slice of low high) h = tt
 names_there-is n ms (Fetch memory width at) h = has_width-is width (slice_get ms memory) h
 
-has_plain_index-is : (s : Shapes) (xs : List Expr) (x : Expr) → has_plain_index s xs x ≡ true → HasPlainIndex s xs x
+pub has_plain_index-is : (s : Shapes) (xs : List Expr) (x : Expr) → has_plain_index s xs x ≡ true → HasPlainIndex s xs x
 has_plain_index-is s xs (Const value bits signed) h = tt
 has_plain_index-is s xs (Sig x) h = tt
 has_plain_index-is s xs (Unary op of) h = tt
@@ -80,7 +80,7 @@ has_plain_index-is s xs (Replicate of count) h = tt
 has_plain_index-is s xs (Slice of low high) h = tt
 has_plain_index-is s xs (Fetch memory width at) h = not-true _ h
 
-takes_operands-is : (x : Expr) → takes_operands x ≡ true → TakesOperands x
+pub takes_operands-is : (x : Expr) → takes_operands x ≡ true → TakesOperands x
 takes_operands-is (Const value bits signed) h = tt
 takes_operands-is (Sig x) h = tt
 takes_operands-is (Unary op of) h = h
@@ -92,7 +92,7 @@ takes_operands-is (Replicate of count) h = tt
 takes_operands-is (Slice of low high) h = tt
 takes_operands-is (Fetch memory width at) h = tt
 
-has_parts-is : (x : Expr) → has_parts x ≡ true → HasParts x
+pub has_parts-is : (x : Expr) → has_parts x ≡ true → HasParts x
 has_parts-is (Const value bits signed) h = tt
 has_parts-is (Sig x) h = tt
 has_parts-is (Unary op of) h = tt
@@ -104,7 +104,7 @@ has_parts-is (Replicate of count) h = tt
 has_parts-is (Slice of low high) h = tt
 has_parts-is (Fetch memory width at) h = tt
 
-target_stands-is : (s : Shapes) (n : ℕ) (xs : List Expr) (x : Target) → target_stands s n xs x ≡ true → TargetStands s n xs x
+pub target_stands-is : (s : Shapes) (n : ℕ) (xs : List Expr) (x : Target) → target_stands s n xs x ≡ true → TargetStands s n xs x
 target_stands-is s n xs (target.Whole x) h = ltb-true x.0 n h
 target_stands-is s n xs (target.Part x low len) h =
     let p = and_parts _ _ h in
@@ -120,7 +120,7 @@ branches_stand-is : (n : ℕ) (bs : List Branch) → list_all (λ (b : Branch). 
 branches_stand-is n [] h = tt
 branches_stand-is n (b ∷ bs) h = let p = and_parts _ _ h in (ltb-true b.cond.place n p.0, branches_stand-is n bs p.1)
 
-stmt_stands-is : (n m : ℕ) (x : Stmt) → stmt_stands n m x ≡ true → StmtStands n m x
+pub stmt_stands-is : (n m : ℕ) (x : Stmt) → stmt_stands n m x ≡ true → StmtStands n m x
 stmt_stands-is n m (stmt.Assign target value line) h = let p = and_parts _ _ h in (ltb-true target.place m p.0, ltb-true value.place n p.1)
 stmt_stands-is n m (stmt.If branches rest line) h = branches_stand-is n branches h
 stmt_stands-is n m (stmt.Case on arms rest line) h = ltb-true on.place n h
@@ -213,10 +213,10 @@ is_memory-is m h =
 
 -- ---- ports
 
-shape_is : (a : Shape) (n : ℕ) → a.bits ≡ n → a.signed ≡ false → a ≡ unsigned n
+pub shape_is : (a : Shape) (n : ℕ) → a.bits ≡ n → a.signed ≡ false → a ≡ unsigned n
 shape_is a n e f = ap (λ (m : ℕ). shape m a.signed) e ∙ ap (λ (s : Bool). shape n s) f
 
-is_unsigned-is : (d : Design) (n : ℕ) (x : SigId) → is_unsigned d n x ≡ true → IsUnsigned d n x
+pub is_unsigned-is : (d : Design) (n : ℕ) (x : SigId) → is_unsigned d n x ≡ true → IsUnsigned d n x
 is_unsigned-is d n x h =
     let p = and_parts _ _ h in
     let q = and_parts _ _ p.1 in
@@ -236,7 +236,7 @@ not_fewer a n k h some l =
           ]
     ]
 
-is_fewest-is : (a n : ℕ) → is_fewest a n ≡ true → IsFewestBits (pos a) n
+pub is_fewest-is : (a n : ℕ) → is_fewest a n ≡ true → IsFewestBits (pos a) n
 is_fewest-is a n h =
     let p = and_parts _ _ h in
     let q = and_parts _ _ p.1 in
@@ -246,7 +246,7 @@ is_fewest-is a n h =
       fewest = λ k some fits. not_fewer a n k q.1 some (pos_fits k a fits);
     }
 
-is_address-is : (d : Design) (depth : ℕ) (x : SigId) → is_address d depth x ≡ true → IsAddress d depth x
+pub is_address-is : (d : Design) (depth : ℕ) (x : SigId) → is_address d depth x ≡ true → IsAddress d depth x
 is_address-is d depth x h =
     let p = and_parts _ _ h in
     let q = and_parts _ _ p.1 in

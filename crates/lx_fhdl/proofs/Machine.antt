@@ -1,5 +1,5 @@
 -- What the code's numbers of 128 bits are, over plain variables.
-use Rattle.std.proofs.Common.{◌≡◌, ℕ, ◌-◌, ◌*◌, ◌%◌, ◌^◌, ◌<◌, ◌≤◌, Bool, true, false, min, refl, sym, ◌∙◌, ap, subst, arith, inl, inr, neg_ℤ}
+use Rattle.std.proofs.Common.{◌≡◌, ℕ, ◌-◌, ◌*◌, ◌%◌, ◌^◌, ◌<◌, ◌≤◌, Bool, true, false, min, sym, ◌∙◌, ap, subst, arith, inl, inr, neg_ℤ}
 use Rattle.std.specs.Prelude.{ℤ, pos, negsuc, FitsSigned, None, ◌-ℤ◌, ◌*ℤ◌, bit_and, bit_or, bit_xor}
 use Rattle.std.specs.Int.{w128}
 use Rattle.std.specs.Int.Signed.{shr_z, mag_shr}
@@ -13,6 +13,7 @@ use Rattle.lx_num.specs.Ints.{modulo, floor_div, FitsBits, Fits}
 use Rattle.lx_num.specs.Bits.{int_and, int_or, int_xor}
 use Rattle.lx_num.proofs.Ranges.{unsigned_fits, signed_fits}
 use Rattle.lx_num.proofs.Bitwise.{modulo-int_and, modulo-int_or, modulo-int_xor}
+use Rattle.lx_num.proofs.Machine.{shr_is}
 use Rattle.lx_tables.specs.declared.operators.Op.{Op}
 use Rattle.lx_tables.specs.declared.operators.Op.TheVariants.{Shl}
 use Rattle.lx_circuit.specs.Shapes.{unary_shape, binary_shape, binary_fault, index_fault, too_wide}
@@ -96,10 +97,6 @@ capped x k f =
       | inl h ↦ let e : min k 127 ≡ k = omega arith in ap (λ (j : ℕ). floor_div x (2 ^ j)) e
       | inr h ↦ let e : min k 127 ≡ 127 = omega arith in ap (λ (j : ℕ). floor_div x (2 ^ j)) e ∙ sym (far x k f h)
     ]
-
-shr_is : (z : ℤ) (m : ℕ) → shr_z z m ≡ floor_div z m
-shr_is (pos a) m = refl
-shr_is (negsuc a) m = refl
 
 pub shifted_right : (x y : ℤ) (k : ℕ) → FitsSigned w128 x → k ≡ min (count_of y) 127 → to_z w128 (of_z w128 (shr_z (to_z w128 (of_z w128 x)) (2 ^ k))) ≡ floor_div x (2 ^ count_of y)
 shifted_right x y k f e =

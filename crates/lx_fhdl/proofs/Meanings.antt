@@ -38,7 +38,7 @@ no_faults : (s : Shapes) (v : Values) (t : ℕ → Term) (hs : List Shape) (know
 no_faults s v t hs known [] h = refl
 no_faults s v t hs known (i ∷ is) h = ap (λ (o : Option WidthFault). or_else o (faults_of s (terms_at t is))) h.0.fault ∙ no_faults s v t hs known is h.1
 
-after_none : (o p : Option WidthFault) → o ≡ None → p ≡ None → or_else o p ≡ None
+pub after_none : (o p : Option WidthFault) → o ≡ None → p ≡ None → or_else o p ≡ None
 after_none o p e f = ap (λ (q : Option WidthFault). or_else q p) e ∙ f
 
 own_shape : (s : Shapes) (own : Shape) (hs : List Shape) (x : Expr) → OfSignal s own x → node_shape (λ _. own) hs x ≡ node_shape s hs x

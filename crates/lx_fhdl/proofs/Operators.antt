@@ -2,7 +2,7 @@
 use Rattle.std.proofs.Common.{◌≡◌, ℕ, ◌+◌, ◌-◌, ◌^◌, ◌≤◌, Bool, true, false, cond, not, ◌||◌, refl, ap, subst, arith}
 use Rattle.std.specs.Prelude.{ℤ, pos, Option, Some, None, ◌*ℤ◌, int_lt, nat_le, min}
 use Rattle.std.specs.Ordering.{int_eq}
-use Rattle.std.proofs.lemmas.Bool.{leb-true, or_right}
+use Rattle.std.proofs.lemmas.Bool.{leb-true, or_right, le-leb}
 use Rattle.std.proofs.lemmas.Nat.{pow_pos}
 use Rattle.lx_num.specs.declared.Shape.{Shape}
 use Rattle.lx_num.specs.Ints.{FitsBits, Fits, shape}
@@ -30,6 +30,9 @@ by_none false w e = absurd (cc)
 
 pub not_wide : (n : ℕ) → too_wide n ≡ None → n ≤ 127
 not_wide n e = leb-true n 127 (by_none (nat_le n 127) (TooWide (min n 4294967295)) e)
+
+pub narrow : (n : ℕ) → n ≤ 127 → too_wide n ≡ None
+narrow n h = ap (λ (b : Bool). cond b None (Some (TooWide (min n 4294967295)))) (le-leb n 127 h)
 
 signed_none : (b : Bool) → cond b (Some SignedShift) None ≡ None → b ≡ false
 signed_none true e = absurd (cc)

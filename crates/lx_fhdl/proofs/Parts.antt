@@ -4,7 +4,7 @@ use Rattle.std.specs.Prelude.{ℤ, pos, FitsSigned}
 use Rattle.std.specs.Int.{w128}
 use mir.Val.{to_z, of_z}
 use Rattle.std.proofs.lemmas.Int.{to_z-of_z}
-use Rattle.std.proofs.Math.Nat.{pow-le-pow_right}
+use Rattle.std.proofs.Math.Nat.{pow-le-pow_right, zero-min, min-zero, suc-min-suc}
 use Rattle.std.proofs.lemmas.Nat.{pow-add, mul-add-lt, one_shl}
 use Rattle.lx_num.specs.declared.Shape.{Shape}
 use Rattle.lx_num.specs.Ints.{modulo}
@@ -52,20 +52,11 @@ beside_is pattern low above bits p q h =
     )
 
 pub nth_is : (known : List ℤ) (x : ExprId) (xs : List ExprId) (z : ℤ) (n : ℕ) (d : ExprId) → nth_or_last z (values_at known (x ∷ xs)) n ≡ value_at known (get_or (x ∷ xs) (min n (length xs)) d).place
-nth_is known x xs z zero d = ap (λ (k : ℕ). value_at known (get_or (x ∷ xs) k d).place) (sym (min-none (length xs)))
-  where
-    min-none : (k : ℕ) → min 0 k ≡ 0
-    min-none k = omega arith
-nth_is known x [] z (suc n) d = ap (λ (k : ℕ). value_at known (get_or (x ∷ []) k d).place) (sym (min-last (suc n)))
-  where
-    min-last : (k : ℕ) → min k 0 ≡ 0
-    min-last k = omega arith
+nth_is known x xs z zero d = ap (λ (k : ℕ). value_at known (get_or (x ∷ xs) k d).place) (sym (zero-min (length xs)))
+nth_is known x [] z (suc n) d = ap (λ (k : ℕ). value_at known (get_or (x ∷ []) k d).place) (sym (min-zero (suc n)))
 nth_is known x (y ∷ ys) z (suc n) d =
     nth_is known y ys (value_at known x.place) n d
-    ∙ ap (λ (k : ℕ). value_at known (get_or (x ∷ y ∷ ys) k d).place) (sym (min-next n (length ys)))
-  where
-    min-next : (k m : ℕ) → min (suc k) (suc m) ≡ suc (min k m)
-    min-next k m = omega arith
+    ∙ ap (λ (k : ℕ). value_at known (get_or (x ∷ y ∷ ys) k d).place) (sym (suc-min-suc n (length ys)))
 
 pub pick_is : (known : List ℤ) (xs : List ExprId) (index : ℤ) (k : ℕ) (d : ExprId) → 0 < length xs → k ≡ min (count_of index) (length xs - 1) → pick_value (values_at known xs) index ≡ value_at known (get_or xs k d).place
 pick_is known [] index k d h e = absurd (omega arith)

@@ -1,5 +1,5 @@
 -- What a design means and keeps, on one design and on designs that are nearly like it.
-use Rattle.std.proofs.Common.{◌≡◌, ℕ, ◌<◌, ◌≤◌, ◌^◌, true, false, Some, None, refl, ap, arith}
+use Rattle.std.proofs.Common.{◌≡◌, ℕ, ◌<◌, ◌≤◌, ◌^◌, Some, None, refl, ap, arith, true≢false}
 use Rattle.lx_num.specs.declared.Shape.{Shape}
 use Rattle.lx_num.proofs.Ranges.{fits_pos}
 use Rattle.lx_arena.specs.Folds.{fold_at}
@@ -35,9 +35,6 @@ spelled = record { name = refl; word = refl; digit = refl; dot = refl; none = re
 comb_input : Comb ≡ Input → ⊥
 comb_input e = absurd (cc)
 
-true_false : true ≡ false → ⊥
-true_false e = absurd (cc)
-
 some_none : (k : ℕ) → Some k ≡ None → ⊥
 some_none k e = absurd (cc)
 
@@ -46,7 +43,7 @@ unfolding instance_exprs instance_targets instance_stmts instance_signals instan
 refused = record {
   other_width = λ k. let e : 7 ≡ 8 = k.arenas.named 8 _ refl in omega arith;
   no_memory = λ k. k.arenas.named 8 _ refl;
-  signed_index = λ k. true_false (k.arenas.indices 9 _ refl);
+  signed_index = λ k. true≢false (k.arenas.indices 9 _ refl);
   no_signal = λ k. let e : 13 < 13 = k.arenas.named 8 _ refl in omega arith;
   driven_reset = λ k. comb_input k.domains.0.reset.input;
   content_too_large = λ k. let e : 256 < 2 ^ 8 = k.memories.0.contents.0 in omega arith;

@@ -8,9 +8,10 @@ use Rattle.lx_circuit.specs.Terms.{Term, Terms, NoTerm, MoreTerms}
 use Rattle.lx_circuit.specs.Shapes.{Shapes, shape_of, shapes_of, fault_of, faults_of, joined, bits_sum, some_signed, widest, pick_shape, unary_shape, too_wide, or_else, index_fault, binary_fault, replicate_fault, slice_fault, pick_fault, constant_fault}
 use Rattle.lx_circuit.specs.Places.{Values, At, Word}
 use Rattle.lx_circuit.specs.Values.{value_of, values_of, cat_pattern, count_of}
+use Rattle.lx_circuit.proofs.Values.{cat_below}
 use Rattle.lx_fhdl.specs.Keeping.{EachOf}
 use Rattle.lx_fhdl.specs.Nodes.{IsSmall}
-use Rattle.lx_fhdl.proofs.Items.{EachFits, sum_some, widest_some, cat_below, items_fit}
+use Rattle.lx_fhdl.proofs.Items.{EachFits, sum_some, widest_some, items_fit}
 use Rattle.lx_fhdl.proofs.Arena.{constant_small, replicate_small, slice_inside}
 use Rattle.lx_fhdl.proofs.Fitting.{fits_copies, fits_field, fits_mux, fits_zero}
 use Rattle.lx_fhdl.proofs.Operators.{binary_fits, binary_small, unary_fits, unary_some, joined_some, not_wide, none_left, none_right}

@@ -12,6 +12,7 @@ use Rattle.lx_circuit.specs.Statements.{Target, Targets, Whole, Part, CatTarget,
 use Rattle.lx_fhdl.specs.Nodes.{IsSmall}
 use Rattle.lx_fhdl.specs.Keeping.{target_depth, targets_depth, stmt_depth, branches_depth, arms_depth, block_depth}
 use Rattle.lx_fhdl.specs.Lowered.{is_done}
+use Rattle.lx_fhdl.proofs.Meanings.{after_none}
 use Rattle.lx_lowering.specs.Terms.{never, is_item, lower_term}
 use Rattle.lx_lowering.specs.Flat.{append, when, some_when, holds, fails, without_low, is_last, item_assigns, assigns, parts_assigns, items_assigns, first_branch, is_among_keys, is_value, key_of, is_key, and_none, no_key, otherwise, flat, flat_if, flat_chain, flat_arms, flat_block}
 use Rattle.lx_lowering.specs.Lowering.{is_sound, some_targets, TargetKeeps, TargetsKeep, TermKeeps, StmtKeeps, BranchesKeep, ArmsKeep, BlockKeeps}
@@ -19,7 +20,6 @@ use Rattle.lx_lowering.proofs.SplitFacts.{is_flat, is_flat_block as are_flat}
 use Rattle.lx_lowering.proofs.Appends.{keeps_append, depth_append}
 use Rattle.lx_lowering.proofs.Targets.{ShapeLaws, without_low_keeps}
 use Rattle.lx_lowering.proofs.Picks.{small_constant, compared}
-use Rattle.lx_lowering.proofs.TermFacts.{after_none}
 
 -- ---- conditions keep what their expressions kept
 

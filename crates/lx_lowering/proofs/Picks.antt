@@ -1,8 +1,8 @@
 -- Nested choices in place of a pick: its shape, its value, no fault, and no further name.
 use Rattle.std.proofs.Common.{◌≡◌, ℕ, ◌+◌, ◌-◌, ◌^◌, ◌<◌, ◌≤◌, Bool, true, false, ◌||◌, cond, List, [], ◌∷◌, refl, sym, ◌∙◌, ap, subst, arith, suc, zero, nat_lt, nat_eq, max}
-use Rattle.std.specs.Prelude.{ℤ, pos, negsuc, Option, Some, None, min}
+use Rattle.std.specs.Prelude.{ℤ, pos, negsuc, Option, Some, None}
 use Rattle.std.specs.Ordering.{int_eq}
-use Rattle.std.proofs.lemmas.Bool.{cond_both, ltb-true, ltb-false, le-leb, ne_eqb, eqb-true, eqb-false, or_parts, or_right, or_from}
+use Rattle.std.proofs.lemmas.Bool.{cond_both, ltb-true, ltb-false, ne_eqb, eqb-true, eqb-false, or_parts, or_right, or_from}
 use Rattle.std.proofs.Math.Bool.{or-false}
 use Rattle.std.proofs.lemmas.Bool.Decides.{same_from_decides, Decides-eqb, Decides-int_eq, Decides-like}
 use Rattle.lx_num.specs.declared.Shape.{Shape}
@@ -11,7 +11,7 @@ use Rattle.lx_num.proofs.Ranges.{fits_pos, unsigned_fits, wrap_bits_same}
 use Rattle.lx_tables.specs.declared.operators.Op.TheVariants as op
 use Rattle.lx_circuit.specs.Places.{Place, Values}
 use Rattle.lx_circuit.specs.declared.WidthFault.{WidthFault}
-use Rattle.lx_circuit.specs.declared.WidthFault.TheVariants.{TooWide, BadWidth}
+use Rattle.lx_circuit.specs.declared.WidthFault.TheVariants.{BadWidth}
 use Rattle.lx_circuit.specs.Terms.{Term, Terms, Constant, Binary, Pick, NoTerm, MoreTerms}
 use Rattle.lx_circuit.specs.Shapes.{Shapes, shape_of, shapes_of, joined, joined_bits, joined_fault, pick_shape, some_signed, widest, extra, too_wide, constant_fault, or_else}
 use Rattle.lx_circuit.specs.Values.{value_of, values_of, flag, count_of, mux_value, nth_or_last}
@@ -19,15 +19,12 @@ use Rattle.lx_circuit.specs.Reads.{names, some_names}
 use Rattle.lx_circuit.proofs.Cases.{by_test}
 use Rattle.lx_fhdl.specs.Nodes.{IsSmall}
 use Rattle.lx_fhdl.proofs.Fitting.{count_below}
-use Rattle.lx_fhdl.proofs.Operators.{unsigned_operand}
+use Rattle.lx_fhdl.proofs.Operators.{unsigned_operand, narrow}
 use Rattle.lx_lowering.specs.Terms.{never, is_item, pick_from}
 use Rattle.lx_lowering.specs.Lowering.{TermKeeps, has_some}
 use Rattle.lx_lowering.proofs.TermFacts.{TermsKeep, AreSmall, AreFit, first_keeps, rest_keeps, keeps_constant, keeps_binary, keeps_mux, pick_some, pick_items, pick_index, pick_unsigned, term_small, term_fits}
 
 -- ---- faults that aren't there
-
-pub narrow : (n : ℕ) → n ≤ 127 → too_wide n ≡ None
-narrow n h = ap (λ (b : Bool). cond b None (Some (TooWide (min n 4294967295)))) (le-leb n 127 h)
 
 -- a small shape is one of a constant
 pub small_constant : (a : Shape) → IsSmall a → constant_fault a ≡ None

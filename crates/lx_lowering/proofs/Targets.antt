@@ -2,7 +2,6 @@
 use Rattle.std.proofs.Common.{◌≡◌, ℕ, ℤ, pos, negsuc, zero, suc, Bool, true, false, ◌&&◌, not, cond, List, [], ◌∷◌, ◌++◌, None, ◌+◌, ◌-◌, ◌^◌, ◌<◌, ◌≤◌, min, nat_lt, refl, sym, ◌∙◌, ap, subst, arith, inl, inr}
 use Rattle.std.specs.Prelude.{eqb, int_lt}
 use Rattle.std.specs.Ordering.{int_eq}
-use Rattle.std.proofs.lemmas.Bool.Decides.{nat_tests}
 use Rattle.std.proofs.lemmas.Bool.{cases_lt, cases_eq, lt-ltb, le-ltb, eq-eqb, ne_eqb}
 use Rattle.std.proofs.Math.Nat.{mod-eq_of_lt, div-eq_of_lt, pow-le-pow_right}
 use Rattle.std.proofs.lemmas.List.{append-nil}
@@ -22,7 +21,7 @@ use Rattle.lx_lowering.specs.Terms.{never, is_item, lower_term}
 use Rattle.lx_lowering.specs.Flat.{when, some_when, without_low, is_last, item_assigns, assigns, parts_assigns, items_assigns}
 use Rattle.lx_lowering.specs.Lowering.{TermKeeps, TargetKeeps, TargetsKeep}
 use Rattle.lx_lowering.proofs.Appends.{both_taken}
-use Rattle.lx_lowering.proofs.Picks.{held}
+use Rattle.lx_lowering.proofs.Picks.{held, same_test}
 
 -- what lowering keeps of a term, its value aside
 pub record ShapeLaws (s : Shapes) (n : ℕ) : Type 0 where
@@ -125,9 +124,6 @@ pub record IsIndex (s : Shapes) (v : Values) (i : Term) : Type 0 where
 abbrev pub count_at : Shapes → Values → Term → ℕ
 count_at s v i = count_of (value_of s v i)
 
-int_eq_pos : (c k : ℕ) → int_eq (pos c) (pos k) ≡ eqb c k
-int_eq_pos c k = grind (arith, nat_tests)
-
 pub item_value : (s : Shapes) (v : Values) (i : Term) (k : ℕ) → IsIndex s v i → value_of s v (is_item s i k) ≡ flag (eqb (count_at s v i) k)
 item_value s v i k x =
     let a = shape_of s i in
@@ -137,7 +133,7 @@ item_value s v i k x =
           ap (λ b. value_of s v (cond b (Binary op.Eq i (Constant (pos k) a)) never)) (lt-ltb k (2 ^ a.bits) p)
           ∙ ap (λ y. flag (int_eq (value_of s v i) y)) (held a k x.small.some x.plain p)
           ∙ ap (λ y. flag (int_eq y (pos k))) z.0
-          ∙ ap flag (int_eq_pos (count_at s v i) k)
+          ∙ ap flag (same_test (count_at s v i) k)
       | inr p ↦
           ap (λ b. value_of s v (cond b (Binary op.Eq i (Constant (pos k) a)) never)) (le-ltb k (2 ^ a.bits) p)
           ∙ ap flag (sym (ne_eqb (count_at s v i) k (λ e. omega (arith, z.1))))

@@ -1,18 +1,18 @@
 -- Terms that keep to n signals: their parts keep too, their shapes are small, and their values fit.
-use Rattle.std.proofs.Common.{◌≡◌, ℕ, ◌<◌, true, false, ◌&&◌, refl, ◌∙◌, ap}
-use Rattle.std.specs.Prelude.{ℤ, Option, None}
+use Rattle.std.proofs.Common.{◌≡◌, ℕ, ◌<◌, true, false, ◌&&◌, refl}
+use Rattle.std.specs.Prelude.{ℤ, None}
 use Rattle.std.proofs.lemmas.Bool.{ltb-true, lt-ltb, and_parts, and_from}
 use Rattle.lx_num.specs.declared.Shape.{Shape}
 use Rattle.lx_num.specs.Ints.{Fits, unsigned}
 use Rattle.lx_tables.specs.declared.operators.Op.{Op}
 use Rattle.lx_circuit.specs.Places.{Values, At}
-use Rattle.lx_circuit.specs.declared.WidthFault.{WidthFault}
 use Rattle.lx_circuit.specs.Terms.{Term, Terms, Constant, Signal, Unary, Binary, Mux, Cat, Replicate, Slice, Pick, Fetch, NoTerm, MoreTerms}
 use Rattle.lx_circuit.specs.Shapes.{Shapes, shape_of, shapes_of, fault_of, faults_of, or_else, joined, pick_shape, bits_sum, unary_shape, too_wide, index_fault, binary_fault, replicate_fault, slice_fault, pick_fault, constant_fault}
 use Rattle.lx_circuit.specs.Values.{value_of}
 use Rattle.lx_fhdl.specs.Nodes.{IsSmall}
 use Rattle.lx_fhdl.proofs.Operators.{none_left, none_right, index_unsigned}
 use Rattle.lx_fhdl.proofs.TreesFit.{HasAllParts, HaveAllParts, IsSome, tree_small, tree_fits}
+use Rattle.lx_fhdl.proofs.Meanings.{after_none}
 use Rattle.lx_lowering.specs.Lowering.{TermKeeps, is_sound, are_sound, has_some}
 
 -- a list of terms that keep
@@ -147,9 +147,6 @@ pub fetch_own : (s : Shapes) (n m width : ℕ) (i : Term) → TermKeeps s n (Fet
 fetch_own s n m width i k = none_right (fault_of s i) (constant_fault (unsigned width)) k.fault
 
 -- ---- terms that keep, of parts that keep
-
-pub after_none : (f g : Option WidthFault) → f ≡ None → g ≡ None → or_else f g ≡ None
-after_none f g e h = ap (λ (o : Option WidthFault). or_else o g) e ∙ h
 
 pub keeps_constant : (s : Shapes) (n : ℕ) (value : ℤ) (a : Shape) → constant_fault a ≡ None → TermKeeps s n (Constant value a)
 keeps_constant s n value a e = record { sound = refl; fault = e }

@@ -41,7 +41,8 @@ wraps_to_itself n s v r h f g e =
       (λ k. let q : of_z w128 r ≡ of_z w128 v = ap (of_z w128) (d ∙ wrap_bits_same n s v h k) in search (eq-eqb (of_z w128 r) (of_z w128 v) q)),
     )
 
-shr_is : (z : ℤ) (m : ℕ) → shr_z z m ≡ floor_div z m
+-- a shift to the right is a quotient that is rounded down
+pub shr_is : (z : ℤ) (m : ℕ) → shr_z z m ≡ floor_div z m
 shr_is (pos a) m = refl
 shr_is (negsuc a) m = refl
 
