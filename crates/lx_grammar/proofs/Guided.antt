@@ -1,8 +1,9 @@
 -- Every tree of the grammar is the one that is read where what stands ahead picks each row; so there is at most one.
-use Rattle.std.proofs.Common.{ℕ, Bool, true, false, ◌≡◌, ◌<◌, ◌≤◌, ◌&&◌, ◌||◌, ◌+◌, ◌-◌, nat_eq, nat_lt, refl, sym, ap, subst, arith, ◌∙◌, List, [], ◌∷◌, length, Option, Some, None, slice_get, if◌then◌else◌}
-use Rattle.std.proofs.lemmas.Bool.{eqb-true, ltb-true, eq-eqb}
+use Rattle.std.proofs.Common.{ℕ, Bool, true, false, ◌≡◌, ◌<◌, ◌≤◌, ◌&&◌, ◌+◌, ◌-◌, nat_eq, nat_lt, refl, sym, ap, subst, arith, ◌∙◌, List, [], ◌∷◌, length, Option, Some, None, slice_get, if◌then◌else◌, not}
+use Rattle.std.proofs.lemmas.Bool.{eqb-true, ltb-true, eq-eqb, and_parts, or_left, or_right, ltb-false, not-true}
 use Rattle.std.proofs.lemmas.Bool.Decides.{nat_tests}
 use Rattle.std.proofs.lemmas.Option.{slice_get_past}
+use Rattle.std.proofs.Math.Bool.{or-false}
 use Rattle.lx_grammar.specs.declared.sign.Item.{Item}
 use Rattle.lx_grammar.specs.declared.grammar.Spot.{Spot}
 use Rattle.lx_grammar.specs.declared.grammar.Spot.TheVariants as spot
@@ -17,7 +18,7 @@ use Rattle.lx_grammar.specs.Derives.{Tree, NoTree, Parts, end, token, child, joi
 use Rattle.lx_grammar.specs.Reads.{Reads, done, took, opened, inlined, skipped, given, ended, again}
 use Rattle.lx_grammar.proofs.Tables.{starts, follow, hush}
 use Rattle.lx_grammar.proofs.Below.{number_below}
-use Rattle.lx_grammar.proofs.Checks.{imp, no, every, left_of, right_of, modus, no_is, or_left, or_right, every_at, row_at}
+use Rattle.lx_grammar.proofs.Checks.{imp, every, modus, every_at, row_at}
 use Rattle.lx_grammar.proofs.Marks.{look_below, marks_sound, kinds, ahead_told, ahead_taken}
 use Rattle.lx_grammar.proofs.Test.{within, predict, passes_by, fits, tells, rings, audible, still_token, still, picked_near, picked_far, row_fits}
 use Rattle.lx_grammar.proofs.Passed.{passes}
@@ -41,53 +42,46 @@ still_part r β = still (hush r) β 0
 
 pub row_picked : (r : Spot) (i : ℕ) (β : List Symbol) → slice_get (rules r) i ≡ Some β → (if is_far r then picked_far r i β else picked_near r i β) ≡ true
 unfolding row_fits
-row_picked r i β e = left_of (picks_part r i β) (starts_part r β && (fits_part r β && still_part r β)) (fitting r i β e)
+row_picked r i β e = (and_parts (picks_part r i β) (starts_part r β && (fits_part r β && still_part r β)) (fitting r i β e)).0
 
 row_rest : (r : Spot) (i : ℕ) (β : List Symbol) → slice_get (rules r) i ≡ Some β → (starts_part r β && (fits_part r β && still_part r β)) ≡ true
 unfolding row_fits
-row_rest r i β e = right_of (picks_part r i β) (starts_part r β && (fits_part r β && still_part r β)) (fitting r i β e)
+row_rest r i β e = (and_parts (picks_part r i β) (starts_part r β && (fits_part r β && still_part r β)) (fitting r i β e)).1
 
 pub row_starts : (r : Spot) (i : ℕ) (β : List Symbol) → slice_get (rules r) i ≡ Some β → within (predict (accepts (follow r)) β) (accepts (starts r)) ≡ true
-row_starts r i β e = left_of (starts_part r β) (fits_part r β && still_part r β) (row_rest r i β e)
+row_starts r i β e = (and_parts (starts_part r β) (fits_part r β && still_part r β) (row_rest r i β e)).0
 
 pub row_inner : (r : Spot) (i : ℕ) (β : List Symbol) → slice_get (rules r) i ≡ Some β → fits (accepts (follow r)) β ≡ true
-row_inner r i β e = left_of (fits_part r β) (still_part r β) (right_of (starts_part r β) (fits_part r β && still_part r β) (row_rest r i β e))
+row_inner r i β e = (and_parts (fits_part r β) (still_part r β) (and_parts (starts_part r β) (fits_part r β && still_part r β) (row_rest r i β e)).1).0
 
 pub row_still : (r : Spot) (i : ℕ) (β : List Symbol) → slice_get (rules r) i ≡ Some β → still (hush r) β 0 ≡ true
-row_still r i β e = right_of (fits_part r β) (still_part r β) (right_of (starts_part r β) (fits_part r β && still_part r β) (row_rest r i β e))
+row_still r i β e = (and_parts (fits_part r β) (still_part r β) (and_parts (starts_part r β) (fits_part r β && still_part r β) (row_rest r i β e)).1).1
 
 pub within_at : (p q : ℕ → Bool) (k : ℕ) → within p q ≡ true → k < 61 → p k ≡ true → q k ≡ true
 unfolding within
 within_at p q k h lt e = modus _ _ (every_at 61 k (λ i. imp (p i) (q i)) h lt) e
 
-or_off : (a : Bool) → (a || false) ≡ true → a ≡ true
-or_off true h = refl
-or_off false h = h
-
-not_below : (a b : ℕ) → nat_lt a b ≡ false → b ≤ a
-not_below a b h = grind (arith, nat_tests)
-
 stilled : (o2 c2 l2 o c lo : Bool) (h d : ℕ) (next : ℕ → Bool) → o ≡ o2 → c ≡ c2 → lo ≡ l2 → still_token o2 c2 l2 h d next ≡ true → still_token o c lo h d next ≡ true
 stilled o2 c2 l2 o c lo h d next p q r s = subst (λ k. still_token k c lo h d next ≡ true) (sym p) (subst (λ k. still_token o2 k lo h d next ≡ true) (sym q) (subst (λ k. still_token o2 c2 k h d next ≡ true) (sym r) s))
 
-deep : (r : Spot) (h d b : ℕ) → no (nat_lt (h + d) (hush r)) ≡ true → h ≤ b → hush r ≤ d + b
-deep r h d b n hb = let x : hush r ≤ h + d = not_below _ _ (no_is _ n) in omega arith
+deep : (r : Spot) (h d b : ℕ) → not (nat_lt (h + d) (hush r)) ≡ true → h ≤ b → hush r ≤ d + b
+deep r h d b n hb = let x : hush r ≤ h + d = ltb-false _ _ (not-true _ n) in omega arith
 
 -- one token of a row whose brackets are balanced
 calm_token : (o cl lo : Bool) (h d b c : ℕ) (next : ℕ → Bool) (l : List Item) (goal : ℕ) → ((e : ℕ) → next e ≡ true → ahead (e + b) l ≡ goal) → still_token o cl lo h d next ≡ true → h ≤ b → (if o then ahead ((d + b) + 1) l else (if cl then (if nat_eq (d + b) 0 then c else ahead ((d + b) - 1) l) else (if nat_eq (d + b) 0 && lo then c else ahead (d + b) l))) ≡ goal
 calm_token true cl lo h d b c next l goal go s hb = let e : (d + b) + 1 ≡ (d + 1) + b = omega arith in ap (λ k. ahead k l) e ∙ go (d + 1) s
 calm_token false true lo h d b c next l goal go s hb =
-    let pos : 0 < d = ltb-true 0 d (left_of _ _ s) in
+    let pos : 0 < d = ltb-true 0 d (and_parts _ _ s).0 in
     let z : nat_eq (d + b) 0 ≡ false = grind (arith, nat_tests) in
     let e : (d + b) - 1 ≡ (d - 1) + b = omega arith in
-    let last : ahead ((d + b) - 1) l ≡ goal = ap (λ k. ahead k l) e ∙ go (d - 1) (right_of _ _ s) in
+    let last : ahead ((d + b) - 1) l ≡ goal = ap (λ k. ahead k l) e ∙ go (d - 1) (and_parts _ _ s).1 in
     subst (λ k. (if k then c else ahead ((d + b) - 1) l) ≡ goal) (sym z) last
 calm_token false false true h d b c next l goal go s hb =
-    let pos : 0 < h + d = ltb-true 0 (h + d) (or_off _ (left_of _ _ s)) in
+    let pos : 0 < h + d = ltb-true 0 (h + d) (sym (or-false (nat_lt 0 (h + d))) ∙ (and_parts _ _ s).0) in
     let z : nat_eq (d + b) 0 ≡ false = grind (arith, nat_tests) in
-    subst (λ k. (if k && true then c else ahead (d + b) l) ≡ goal) (sym z) (go d (right_of _ _ s))
+    subst (λ k. (if k && true then c else ahead (d + b) l) ≡ goal) (sym z) (go d (and_parts _ _ s).1)
 calm_token false false false h d b c next l goal go s hb =
-    elim (nat_eq (d + b) 0) as (λ k. (if k && false then c else ahead (d + b) l) ≡ goal) [ true ↦ go d (right_of _ _ s) | false ↦ go d (right_of _ _ s) ]
+    elim (nat_eq (d + b) 0) as (λ k. (if k && false then c else ahead (d + b) l) ≡ goal) [ true ↦ go d (and_parts _ _ s).1 | false ↦ go d (and_parts _ _ s).1 ]
 
 from_zero : (n : ℕ) (l : List Item) → ahead n l ≡ ahead (0 + n) l
 from_zero n l = let e : n ≡ 0 + n = omega arith in ap (λ k. ahead k l) e
@@ -100,12 +94,12 @@ calm (take {s = s} {α = α} {x = x} {l = l} {m = m} e f) h d b g hb =
     let k : (accepts OPENING (number x.sign) ≡ accepts OPENING (number s)) × (accepts CLOSING (number x.sign) ≡ accepts CLOSING (number s)) × (accepts LOUD (number x.sign) ≡ accepts LOUD (number s)) = kinds (number s) (number x.sign) (number_below s) (number_below x.sign) e in
     let g2 : still_token (accepts OPENING (number x.sign)) (accepts CLOSING (number x.sign)) (accepts LOUD (number x.sign)) h d (still h α) ≡ true = stilled _ _ _ _ _ _ h d (still h α) k.0 k.1 k.2 g in
     calm_token (accepts OPENING (number x.sign)) (accepts CLOSING (number x.sign)) (accepts LOUD (number x.sign)) h d b (number x.sign) (still h α) l (ahead b m) (λ i j. calm f h i b j hb) g2 hb
-calm (node {r = r} i {β = β} {α = α} {l = l} {k = k} e f g) h d b s hb = from_zero (d + b) _ ∙ calm f (hush r) 0 (d + b) (row_still r i β e) (deep r h d b (left_of _ _ s) hb) ∙ calm g h d b (right_of _ _ s) hb
-calm (one {r = r} i {β = β} e f g) h d b s hb = from_zero (d + b) _ ∙ calm f (hush r) 0 (d + b) (row_still r i β e) (deep r h d b (left_of _ _ s) hb) ∙ calm g h d b (right_of _ _ s) hb
-calm (skip g) h d b s hb = calm g h d b (right_of _ _ s) hb
-calm (once {r = r} i {β = β} e f g) h d b s hb = from_zero (d + b) _ ∙ calm f (hush r) 0 (d + b) (row_still r i β e) (deep r h d b (left_of _ _ s) hb) ∙ calm g h d b (right_of _ _ s) hb
-calm (stop g) h d b s hb = calm g h d b (right_of _ _ s) hb
-calm (more {r = r} i {β = β} e f g) h d b s hb = from_zero (d + b) _ ∙ calm f (hush r) 0 (d + b) (row_still r i β e) (deep r h d b (left_of _ _ s) hb) ∙ calm g h d b s hb
+calm (node {r = r} i {β = β} {α = α} {l = l} {k = k} e f g) h d b s hb = from_zero (d + b) _ ∙ calm f (hush r) 0 (d + b) (row_still r i β e) (deep r h d b (and_parts _ _ s).0 hb) ∙ calm g h d b (and_parts _ _ s).1 hb
+calm (one {r = r} i {β = β} e f g) h d b s hb = from_zero (d + b) _ ∙ calm f (hush r) 0 (d + b) (row_still r i β e) (deep r h d b (and_parts _ _ s).0 hb) ∙ calm g h d b (and_parts _ _ s).1 hb
+calm (skip g) h d b s hb = calm g h d b (and_parts _ _ s).1 hb
+calm (once {r = r} i {β = β} e f g) h d b s hb = from_zero (d + b) _ ∙ calm f (hush r) 0 (d + b) (row_still r i β e) (deep r h d b (and_parts _ _ s).0 hb) ∙ calm g h d b (and_parts _ _ s).1 hb
+calm (stop g) h d b s hb = calm g h d b (and_parts _ _ s).1 hb
+calm (more {r = r} i {β = β} e f g) h d b s hb = from_zero (d + b) _ ∙ calm f (hush r) 0 (d + b) (row_still r i β e) (deep r h d b (and_parts _ _ s).0 hb) ∙ calm g h d b s hb
 
 -- the same, where the look starts outside brackets
 pub calm_row : (r : Spot) (i : ℕ) {β : List Symbol} {l k : List Item} {qs : Parts} → slice_get (rules r) i ≡ Some β → Derives β l k qs → nat_eq (hush r) 0 ≡ true → ahead 0 l ≡ ahead 0 k
@@ -116,12 +110,12 @@ pub heard : {β : List Symbol} {l m : List Item} {ps : Parts} → Derives β l m
 unfolding rings audible
 heard (none {l = l}) F h e = subst (λ k. F k ≡ true) (sym (ahead_told l (within_at F tells (look l) h (look_below l) e))) e
 heard (take {s = s} {x = x} {l = l} e f) F h g = eq-eqb _ _ (ahead_taken (number s) x l (number_below s) e h)
-heard (node {r = r} i {β = β} {α = α} e f g) F h j = subst (λ k. rings F α k ≡ true) (sym (calm_row r i e f (left_of _ _ h))) (heard g F (right_of _ _ h) j)
-heard (one {r = r} i {β = β} {α = α} e f g) F h j = subst (λ k. rings F α k ≡ true) (sym (calm_row r i e f (left_of _ _ h))) (heard g F (right_of _ _ h) j)
-heard (skip g) F h j = heard g F (right_of _ _ h) j
-heard (once {r = r} i {β = β} {α = α} e f g) F h j = subst (λ k. rings F α k ≡ true) (sym (calm_row r i e f (left_of _ _ h))) (heard g F (right_of _ _ h) j)
-heard (stop g) F h j = heard g F (right_of _ _ h) j
-heard (more {r = r} i {β = β} {α = α} e f g) F h j = subst (λ k. rings F α k ≡ true) (sym (calm_row r i e f (left_of _ _ h))) (heard g F h j)
+heard (node {r = r} i {β = β} {α = α} e f g) F h j = subst (λ k. rings F α k ≡ true) (sym (calm_row r i e f (and_parts _ _ h).0)) (heard g F (and_parts _ _ h).1 j)
+heard (one {r = r} i {β = β} {α = α} e f g) F h j = subst (λ k. rings F α k ≡ true) (sym (calm_row r i e f (and_parts _ _ h).0)) (heard g F (and_parts _ _ h).1 j)
+heard (skip g) F h j = heard g F (and_parts _ _ h).1 j
+heard (once {r = r} i {β = β} {α = α} e f g) F h j = subst (λ k. rings F α k ≡ true) (sym (calm_row r i e f (and_parts _ _ h).0)) (heard g F (and_parts _ _ h).1 j)
+heard (stop g) F h j = heard g F (and_parts _ _ h).1 j
+heard (more {r = r} i {β = β} {α = α} e f g) F h j = subst (λ k. rings F α k ≡ true) (sym (calm_row r i e f (and_parts _ _ h).0)) (heard g F h j)
 
 if_below : (b : Bool) (m n : ℕ) → m < 61 → n < 61 → (if b then m else n) < 61
 if_below true m n p q = p
@@ -138,7 +132,7 @@ ahead_below d (x ∷ l) = if_below (accepts OPENING (number x.sign)) _ _ (ahead_
 
 far_chosen : (r : Spot) (i : ℕ) {β : List Symbol} {l k : List Item} {qs : Parts} → slice_get (rules r) i ≡ Some β → Derives β l k qs → accepts (follow r) (look k) ≡ true → picked_far r i β ≡ true → pick r (ahead 0 l) ≡ i
 unfolding picked_far
-far_chosen r i {β = β} {l = l} e f q h = eqb-true _ _ (modus _ _ (every_at 61 (ahead 0 l) (λ k. imp (rings (accepts (follow r)) β k) (nat_eq (pick r k) i)) (right_of _ _ h) (ahead_below 0 l)) (heard f (accepts (follow r)) (left_of _ _ h) q))
+far_chosen r i {β = β} {l = l} e f q h = eqb-true _ _ (modus _ _ (every_at 61 (ahead 0 l) (λ k. imp (rings (accepts (follow r)) β k) (nat_eq (pick r k) i)) (and_parts _ _ h).1 (ahead_below 0 l)) (heard f (accepts (follow r)) (and_parts _ _ h).0 q))
 
 -- the row that was derived is the one that is picked
 pub chosen : (r : Spot) (i : ℕ) {β : List Symbol} {l k : List Item} {qs : Parts} → slice_get (rules r) i ≡ Some β → Derives β l k qs → predict (accepts (follow r)) β (look l) ≡ true → accepts (follow r) (look k) ≡ true → pick r (view r l) ≡ i
@@ -167,9 +161,9 @@ inner r i {β = β} {l = l} {k = k} e f led q = record {
 passed_by : (r : Spot) (G : ℕ → Bool) (l : List Item) → passes_by r G ≡ true → G (look l) ≡ true → slice_get (rules r) (pick r (view r l)) ≡ None
 unfolding passes_by view
 passed_by r G l h e =
-    let near : is_far r ≡ false = no_is _ (left_of _ _ h) in
-    let out : no (nat_lt (pick r (look l)) (length (rules r))) ≡ true = modus _ _ (every_at 61 (look l) (λ k. imp (G k) (no (nat_lt (pick r k) (length (rules r))))) (right_of _ _ h) (look_below l)) e in
-    let past : length (rules r) ≤ pick r (look l) = not_below _ _ (no_is _ out) in
+    let near : is_far r ≡ false = not-true _ (and_parts _ _ h).0 in
+    let out : not (nat_lt (pick r (look l)) (length (rules r))) ≡ true = modus _ _ (every_at 61 (look l) (λ k. imp (G k) (not (nat_lt (pick r k) (length (rules r))))) (and_parts _ _ h).1 (look_below l)) e in
+    let past : length (rules r) ≤ pick r (look l) = ltb-false _ _ (not-true _ out) in
     subst (λ b. slice_get (rules r) (pick r (if b then ahead 0 l else look l)) ≡ None) (sym near) (slice_get_past (rules r) (pick r (look l)) past)
 
 pub guided : {α : List Symbol} {l m : List Item} {ps : Parts} → Derives α l m ps → (F : ℕ → Bool) → fits F α ≡ true → F (look m) ≡ true → Led F α l m ps
@@ -179,29 +173,29 @@ guided (take {s = s} {α = α} {x = x} {l = l} t g) F h e =
     let rest : Led F α l _ _ = guided g F h e in
     record { reads = took t rest.reads; seen = marks_sound (number s) (number x.sign) (look l) (predict F α) (number_below s) (number_below x.sign) (look_below l) t rest.seen }
 guided (node {r = r} i {β = β} {α = α} {l = l} {k = k} {qs = qs} t f g) F h e =
-    let rest : Led F α k _ _ = guided g F (right_of _ _ h) e in
-    let q : accepts (follow r) (look k) ≡ true = within_at _ _ (look k) (left_of _ _ h) (look_below k) rest.seen in
+    let rest : Led F α k _ _ = guided g F (and_parts _ _ h).1 e in
+    let q : accepts (follow r) (look k) ≡ true = within_at _ _ (look k) (and_parts _ _ h).0 (look_below k) rest.seen in
     let in_row : Inner r i β l k qs = inner r i t f (guided f (accepts (follow r)) (row_inner r i β t) q) q in
     record { reads = opened in_row.picks in_row.inside rest.reads; seen = in_row.begins }
 guided (one {r = r} i {β = β} {α = α} {l = l} {k = k} {qs = qs} t f g) F h e =
-    let rest : Led F α k _ _ = guided g F (right_of _ _ h) e in
-    let q : accepts (follow r) (look k) ≡ true = within_at _ _ (look k) (left_of _ _ h) (look_below k) rest.seen in
+    let rest : Led F α k _ _ = guided g F (and_parts _ _ h).1 e in
+    let q : accepts (follow r) (look k) ≡ true = within_at _ _ (look k) (and_parts _ _ h).0 (look_below k) rest.seen in
     let in_row : Inner r i β l k qs = inner r i t f (guided f (accepts (follow r)) (row_inner r i β t) q) q in
     record { reads = inlined in_row.picks in_row.inside rest.reads; seen = in_row.begins }
 guided (skip {r = r} {α = α} {l = l} g) F h e =
-    let rest : Led F α l _ _ = guided g F (right_of _ _ (right_of _ _ h)) e in
-    record { reads = skipped (passed_by r (predict F α) l (left_of _ _ (right_of _ _ h)) rest.seen) rest.reads; seen = or_right _ _ rest.seen }
+    let rest : Led F α l _ _ = guided g F (and_parts _ _ (and_parts _ _ h).1).1 e in
+    record { reads = skipped (passed_by r (predict F α) l (and_parts _ _ (and_parts _ _ h).1).0 rest.seen) rest.reads; seen = or_right _ _ rest.seen }
 guided (once {r = r} i {β = β} {α = α} {l = l} {k = k} {qs = qs} t f g) F h e =
-    let rest : Led F α k _ _ = guided g F (right_of _ _ (right_of _ _ h)) e in
-    let q : accepts (follow r) (look k) ≡ true = within_at _ _ (look k) (left_of _ _ h) (look_below k) rest.seen in
+    let rest : Led F α k _ _ = guided g F (and_parts _ _ (and_parts _ _ h).1).1 e in
+    let q : accepts (follow r) (look k) ≡ true = within_at _ _ (look k) (and_parts _ _ h).0 (look_below k) rest.seen in
     let in_row : Inner r i β l k qs = inner r i t f (guided f (accepts (follow r)) (row_inner r i β t) q) q in
     record { reads = given in_row.picks in_row.inside rest.reads; seen = or_left _ _ in_row.begins }
 guided (stop {r = r} {α = α} {l = l} g) F h e =
-    let rest : Led F α l _ _ = guided g F (right_of _ _ (right_of _ _ h)) e in
-    record { reads = ended (passed_by r (predict F α) l (left_of _ _ (right_of _ _ h)) rest.seen) rest.reads; seen = or_right _ _ rest.seen }
+    let rest : Led F α l _ _ = guided g F (and_parts _ _ (and_parts _ _ h).1).1 e in
+    record { reads = ended (passed_by r (predict F α) l (and_parts _ _ (and_parts _ _ h).1).0 rest.seen) rest.reads; seen = or_right _ _ rest.seen }
 guided (more {r = r} i {β = β} {α = α} {l = l} {k = k} {qs = qs} t f g) F h e =
     let rest : Led F (symbol.Many r ∷ α) k _ _ = guided g F h e in
-    let q : accepts (follow r) (look k) ≡ true = within_at _ _ (look k) (left_of _ _ h) (look_below k) rest.seen in
+    let q : accepts (follow r) (look k) ≡ true = within_at _ _ (look k) (and_parts _ _ h).0 (look_below k) rest.seen in
     let in_row : Inner r i β l k qs = inner r i t f (guided f (accepts (follow r)) (row_inner r i β t) q) q in
     record { reads = again in_row.picks in_row.inside rest.reads; seen = or_left _ _ in_row.begins }
 

@@ -1,13 +1,13 @@
 -- What the sign of a token before others tells: facts that the tests show for each sign.
-use Rattle.std.proofs.Common.{ℕ, Bool, true, false, ◌≡◌, ◌<◌, ◌&&◌, ◌||◌, ◌+◌, ◌-◌, nat_eq, nat_lt, refl, sym, ap, subst, ◌∙◌, List, [], ◌∷◌, if◌then◌else◌}
-use Rattle.std.proofs.lemmas.Bool.{eqb-true, ltb-true, eq-eqb}
+use Rattle.std.proofs.Common.{ℕ, Bool, true, false, ◌≡◌, ◌<◌, ◌&&◌, ◌||◌, ◌+◌, ◌-◌, nat_eq, nat_lt, refl, sym, ap, subst, ◌∙◌, List, [], ◌∷◌, if◌then◌else◌, not}
+use Rattle.std.proofs.lemmas.Bool.{eqb-true, ltb-true, eq-eqb, and_parts, and_from, or_left, or_right}
 use Rattle.lx_grammar.specs.declared.sign.Item.{Item}
 use Rattle.lx_grammar.specs.declared.sign.TheConstants.{OPENING, CLOSING, LOUD, ASSIGNING, ENDS_VALUES}
 use Rattle.lx_grammar.specs.Numbers.{number, accepts}
 use Rattle.lx_grammar.specs.Ahead.{mark, look, ahead}
 use Rattle.lx_grammar.specs.Derives.{takes}
 use Rattle.lx_grammar.proofs.Below.{number_below}
-use Rattle.lx_grammar.proofs.Checks.{imp, no, same, every, some, each_bool, left_of, right_of, modus, same_is, or_left, or_right, every_at, some_at, bool_at, both_of}
+use Rattle.lx_grammar.proofs.Checks.{imp, same, every, some, each_bool, modus, same_is, every_at, some_at, bool_at}
 use Rattle.lx_grammar.proofs.Test.{plain, gives, marks, tells}
 
 -- the sign of a token, by the three questions about what stands behind it
@@ -102,8 +102,8 @@ all_ones = refl
 
 gives_by : (w c g : ℕ) (p q r s : Bool) → nat_eq c w ≡ p → nat_eq w 0 ≡ q → nat_eq c 1 ≡ r → nat_eq c 2 ≡ s → (p || q && (r || s)) ≡ true → (nat_eq (mark c g) (mark w g) || nat_eq w 0 && (nat_eq (mark c g) (mark 1 g) || nat_eq (mark c g) (mark 2 g))) ≡ true
 gives_by w c g true q r s e1 e2 e3 e4 h = or_left _ _ (eq-eqb _ _ (ap (λ k. mark k g) (eqb-true c w e1)))
-gives_by w c g false true true s e1 e2 e3 e4 h = or_right _ _ (both_of _ _ e2 (or_left _ _ (eq-eqb _ _ (ap (λ k. mark k g) (eqb-true c 1 e3)))))
-gives_by w c g false true false true e1 e2 e3 e4 h = or_right _ _ (both_of _ _ e2 (or_right _ _ (eq-eqb _ _ (ap (λ k. mark k g) (eqb-true c 2 e4)))))
+gives_by w c g false true true s e1 e2 e3 e4 h = or_right _ _ (and_from _ _ e2 (or_left _ _ (eq-eqb _ _ (ap (λ k. mark k g) (eqb-true c 1 e3)))))
+gives_by w c g false true false true e1 e2 e3 e4 h = or_right _ _ (and_from _ _ e2 (or_right _ _ (eq-eqb _ _ (ap (λ k. mark k g) (eqb-true c 2 e4)))))
 gives_by w c g false true false false e1 e2 e3 e4 h = cc
 gives_by w c g false false r s e1 e2 e3 e4 h = cc
 
@@ -114,8 +114,8 @@ gives_at w c g h = gives_by w c g (nat_eq c w) (nat_eq w 0) (nat_eq c 1) (nat_eq
 marks_by : (w c g : ℕ) (G : ℕ → Bool) → w < 61 → c < 61 → g < 61 → takes w c ≡ true → G g ≡ true → (p : Bool) → plain w ≡ p → (if p then nat_eq (mark c g) w else some 61 (λ i. G i && gives w i (mark c g))) ≡ true
 marks_by w c g G lw lc lg h hG true e =
     let t : gives_plain w c (accepts ASSIGNING g) (accepts ENDS_VALUES g) (nat_eq g 56) ≡ true = marks_at (gives_plain w) c _ _ _ (every_at 61 w (λ v. for_marks (gives_plain v)) all_plain lw) lc in
-    ap (λ k. nat_eq k w) (mark_marked c g) ∙ modus _ _ t (both_of _ _ h e)
-marks_by w c g G lw lc lg h hG false e = some_at 61 g (λ i. G i && gives w i (mark c g)) lg (both_of _ _ hG (gives_at w c g (modus _ _ (every_at 61 c (is_one_of w) (every_at 61 w (λ v. every 61 (is_one_of v)) all_ones lw) lc) h)))
+    ap (λ k. nat_eq k w) (mark_marked c g) ∙ modus _ _ t (and_from _ _ h e)
+marks_by w c g G lw lc lg h hG false e = some_at 61 g (λ i. G i && gives w i (mark c g)) lg (and_from _ _ hG (gives_at w c g (modus _ _ (every_at 61 c (is_one_of w) (every_at 61 w (λ v. every 61 (is_one_of v)) all_ones lw) lc) h)))
 
 pub marks_sound : (w c g : ℕ) (G : ℕ → Bool) → w < 61 → c < 61 → g < 61 → takes w c ≡ true → G g ≡ true → marks w G (mark c g) ≡ true
 unfolding marks
@@ -132,7 +132,7 @@ abbrev tells_mark : ℕ → Bool → Bool → Bool → Bool
 tells_mark c a e t = imp (tells (marked c a e t)) (nat_eq (marked c a e t) c)
 
 abbrev tells_ends : ℕ → Bool
-tells_ends c = imp (tells c) (no (accepts OPENING c))
+tells_ends c = imp (tells c) (not (accepts OPENING c))
 
 all_kinds : every 61 (λ w. every 61 (kind_same w)) ≡ true
 unfolding every takes accepts
@@ -153,15 +153,15 @@ all_end = refl
 pub kinds : (w c : ℕ) → w < 61 → c < 61 → takes w c ≡ true → (accepts OPENING c ≡ accepts OPENING w) × (accepts CLOSING c ≡ accepts CLOSING w) × (accepts LOUD c ≡ accepts LOUD w)
 kinds w c lw lc h =
     let t : (same (accepts OPENING c) (accepts OPENING w) && (same (accepts CLOSING c) (accepts CLOSING w) && same (accepts LOUD c) (accepts LOUD w))) ≡ true = modus _ _ (every_at 61 c (kind_same w) (every_at 61 w (λ v. every 61 (kind_same v)) all_kinds lw) lc) h in
-    (same_is _ _ (left_of _ _ t), same_is _ _ (left_of _ _ (right_of _ _ t)), same_is _ _ (right_of _ _ (right_of _ _ t)))
+    (same_is _ _ (and_parts _ _ t).0, same_is _ _ (and_parts _ _ (and_parts _ _ t).1).0, same_is _ _ (and_parts _ _ (and_parts _ _ t).1).1)
 
 -- the look ends at once
 pub ahead_ends : (x : Item) (l : List Item) → tells (number x.sign) ≡ true → ahead 0 (x ∷ l) ≡ number x.sign
 unfolding ahead tells
 ahead_ends x l h =
     let c : ℕ = number x.sign in
-    let o : no (accepts OPENING c) ≡ true = modus _ _ (every_at 61 c tells_ends all_end (number_below x.sign)) h in
-    elim (accepts OPENING c) as (λ b. no b ≡ true → (if b then ahead (0 + 1) l else (if accepts CLOSING c then (if nat_eq 0 0 then c else ahead (0 - 1) l) else (if nat_eq 0 0 && accepts LOUD c then c else ahead 0 l))) ≡ c) [ true ↦ λ (k : no true ≡ true). cc | false ↦ λ (k : no false ≡ true). elim (accepts CLOSING c) as (λ b. (b || accepts LOUD c) ≡ true → (if b then c else (if accepts LOUD c then c else ahead 0 l)) ≡ c) [ true ↦ λ (j : (true || accepts LOUD c) ≡ true). refl | false ↦ λ (j : (false || accepts LOUD c) ≡ true). elim (accepts LOUD c) as (λ b. b ≡ true → (if b then c else ahead 0 l) ≡ c) [ true ↦ λ (i : true ≡ true). refl | false ↦ λ (i : false ≡ true). cc ] j ] h ] o
+    let o : not (accepts OPENING c) ≡ true = modus _ _ (every_at 61 c tells_ends all_end (number_below x.sign)) h in
+    elim (accepts OPENING c) as (λ b. not b ≡ true → (if b then ahead (0 + 1) l else (if accepts CLOSING c then (if nat_eq 0 0 then c else ahead (0 - 1) l) else (if nat_eq 0 0 && accepts LOUD c then c else ahead 0 l))) ≡ c) [ true ↦ λ (k : not true ≡ true). cc | false ↦ λ (k : not false ≡ true). elim (accepts CLOSING c) as (λ b. (b || accepts LOUD c) ≡ true → (if b then c else (if accepts LOUD c then c else ahead 0 l)) ≡ c) [ true ↦ λ (j : (true || accepts LOUD c) ≡ true). refl | false ↦ λ (j : (false || accepts LOUD c) ≡ true). elim (accepts LOUD c) as (λ b. b ≡ true → (if b then c else ahead 0 l) ≡ c) [ true ↦ λ (i : true ≡ true). refl | false ↦ λ (i : false ≡ true). cc ] j ] h ] o
 
 nothing_ahead : ahead 0 [] ≡ 60
 unfolding ahead
@@ -179,5 +179,5 @@ ahead_told (x ∷ l) h =
 
 pub ahead_taken : (w : ℕ) (x : Item) (l : List Item) → w < 61 → takes w (number x.sign) ≡ true → tells w ≡ true → ahead 0 (x ∷ l) ≡ w
 ahead_taken w x l lw h t =
-    let e : number x.sign ≡ w = eqb-true _ _ (modus _ _ (every_at 61 (number x.sign) (tells_same w) (every_at 61 w (λ v. every 61 (tells_same v)) all_tells lw) (number_below x.sign)) (both_of _ _ h t)) in
+    let e : number x.sign ≡ w = eqb-true _ _ (modus _ _ (every_at 61 (number x.sign) (tells_same w) (every_at 61 w (λ v. every 61 (tells_same v)) all_tells lw) (number_below x.sign)) (and_from _ _ h t)) in
     ahead_ends x l (subst (λ k. tells k ≡ true) (sym e) t) ∙ e

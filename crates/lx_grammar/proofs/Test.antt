@@ -1,5 +1,5 @@
 -- The test that what stands ahead picks the right row everywhere.
-use Rattle.std.proofs.Common.{ℕ, Bool, true, false, ◌&&◌, ◌||◌, ◌+◌, ◌-◌, nat_eq, nat_lt, List, [], ◌∷◌, length, if◌then◌else◌}
+use Rattle.std.proofs.Common.{ℕ, Bool, true, false, ◌&&◌, ◌||◌, ◌+◌, ◌-◌, nat_eq, nat_lt, List, [], ◌∷◌, length, if◌then◌else◌, not}
 use Rattle.lx_grammar.specs.declared.grammar.Spot.{Spot}
 use Rattle.lx_grammar.specs.declared.grammar.Symbol.{Symbol}
 use Rattle.lx_grammar.specs.declared.grammar.Symbol.TheVariants as symbol
@@ -9,14 +9,14 @@ use Rattle.lx_grammar.specs.Grammar.{rules}
 use Rattle.lx_grammar.specs.Pick.{pick, is_far}
 use Rattle.lx_grammar.specs.Ahead.{mark}
 use Rattle.lx_grammar.proofs.Tables.{starts, follow, hush}
-use Rattle.lx_grammar.proofs.Checks.{imp, no, every, some}
+use Rattle.lx_grammar.proofs.Checks.{imp, every, some}
 
 unfoldable pub within : (ℕ → Bool) → (ℕ → Bool) → Bool
 within p q = every 61 (λ k. imp (p k) (q k))
 
 -- signs that do not change with what stands behind them
 unfoldable pub plain : ℕ → Bool
-plain w = nat_lt 2 w && (no (nat_eq w 53) && no (nat_eq w 54))
+plain w = nat_lt 2 w && (not (nat_eq w 53) && not (nat_eq w 54))
 
 -- what a token that is taken for w looks like before g
 unfoldable pub gives : ℕ → ℕ → ℕ → Bool
@@ -36,7 +36,7 @@ predict F (symbol.Many r ∷ α) k = accepts (starts r) k || predict F α k
 
 -- no row of this group is picked by what may stand behind the group
 unfoldable pub passes_by : Spot → (ℕ → Bool) → Bool
-passes_by r G = no (is_far r) && every 61 (λ k. imp (G k) (no (nat_lt (pick r k) (length (rules r)))))
+passes_by r G = not (is_far r) && every 61 (λ k. imp (G k) (not (nat_lt (pick r k) (length (rules r)))))
 
 unfoldable pub fits : (ℕ → Bool) → List Symbol → Bool
 fits F [] = true
@@ -71,15 +71,15 @@ audible F (symbol.Many r ∷ α) = nat_eq (hush r) 0 && audible F α
 abbrev pub still_token : Bool → Bool → Bool → ℕ → ℕ → (ℕ → Bool) → Bool
 still_token true cl lo h d next = next (d + 1)
 still_token false true lo h d next = nat_lt 0 d && next (d - 1)
-still_token false false lo h d next = (nat_lt 0 (h + d) || no lo) && next d
+still_token false false lo h d next = (nat_lt 0 (h + d) || not lo) && next d
 
 unfoldable pub still : ℕ → List Symbol → ℕ → Bool
 still h [] d = nat_eq d 0
 still h (symbol.Token s ∷ α) d = still_token (accepts OPENING (number s)) (accepts CLOSING (number s)) (accepts LOUD (number s)) h d (still h α)
-still h (symbol.Node r ∷ α) d = no (nat_lt (h + d) (hush r)) && still h α d
-still h (symbol.One r ∷ α) d = no (nat_lt (h + d) (hush r)) && still h α d
-still h (symbol.Maybe r ∷ α) d = no (nat_lt (h + d) (hush r)) && still h α d
-still h (symbol.Many r ∷ α) d = no (nat_lt (h + d) (hush r)) && still h α d
+still h (symbol.Node r ∷ α) d = not (nat_lt (h + d) (hush r)) && still h α d
+still h (symbol.One r ∷ α) d = not (nat_lt (h + d) (hush r)) && still h α d
+still h (symbol.Maybe r ∷ α) d = not (nat_lt (h + d) (hush r)) && still h α d
+still h (symbol.Many r ∷ α) d = not (nat_lt (h + d) (hush r)) && still h α d
 
 unfoldable pub picked_near : Spot → ℕ → List Symbol → Bool
 picked_near r i α = every 61 (λ k. imp (predict (accepts (follow r)) α k) (nat_eq (pick r k) i))

@@ -1,12 +1,12 @@
 -- Each row takes a token, and stands lower than its spot by more than its length.
 use Rattle.std.proofs.Common.{ℕ, Bool, true, false, ◌≡◌, ◌<◌, ◌≤◌, ◌+◌, ◌&&◌, ◌++◌, nat_lt, max, List, [], ◌∷◌, length, map, refl, ap, arith, lit≤, slice_get, Some}
-use Rattle.std.proofs.lemmas.Bool.{ltb-true}
+use Rattle.std.proofs.lemmas.Bool.{ltb-true, and_parts}
 use Rattle.lx_grammar.specs.declared.grammar.Spot.{Spot}
 use Rattle.lx_grammar.specs.declared.grammar.Spot.TheVariants as spot
 use Rattle.lx_grammar.specs.declared.grammar.Symbol.{Symbol}
 use Rattle.lx_grammar.specs.declared.grammar.Symbol.TheVariants as symbol
 use Rattle.lx_grammar.specs.Grammar.{rules}
-use Rattle.lx_grammar.proofs.Checks.{each_row, row_at, left_of, right_of}
+use Rattle.lx_grammar.proofs.Checks.{each_row, row_at}
 use Rattle.lx_pytree.specs.declared.machine.Step.{Step}
 use Rattle.lx_pytree.specs.declared.machine.Step.TheVariants as step
 use Rattle.lx_pytree.specs.Weights.{weight}
@@ -199,6 +199,6 @@ pub row_falls : (r : Spot) (i : ℕ) (β : List Symbol) (S : List Step) → slic
 unfolding light
 row_falls r i β S e =
     let ok : (solid β && nat_lt (length β + row_cost β + 2) (weight r)) ≡ true = row_at (light r) (rules r) i β (all_light r) e in
-    let c : cost (map step.Do β ++ S) ≡ row_cost β = cost_row β S (left_of (solid β) (nat_lt (length β + row_cost β + 2) (weight r)) ok) in
-    let lt : length β + row_cost β + 2 < weight r = ltb-true _ _ (right_of (solid β) (nat_lt (length β + row_cost β + 2) (weight r)) ok) in
+    let c : cost (map step.Do β ++ S) ≡ row_cost β = cost_row β S (and_parts (solid β) (nat_lt (length β + row_cost β + 2) (weight r)) ok).0 in
+    let lt : length β + row_cost β + 2 < weight r = ltb-true _ _ (and_parts (solid β) (nat_lt (length β + row_cost β + 2) (weight r)) ok).1 in
     omega arith

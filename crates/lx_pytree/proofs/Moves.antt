@@ -1,6 +1,6 @@
 -- What each step does to the reader's state.
 use Rattle.std.proofs.Common.{ℕ, zero, suc, true, false, ◌≡◌, ◌<◌, ◌≤◌, ◌+◌, ◌-◌, ◌*◌, ◌&&◌, ◌++◌, max, List, [], ◌∷◌, length, reverse, map, take, drop, refl, sym, ap, ◌∙◌, subst, arith, Option, Some, None, length-append, append-nil, add-one, drop-cons, get_or, Result, Ok, Err, option_to_list}
-use Rattle.std.proofs.lemmas.Bool.{lt-ltb}
+use Rattle.std.proofs.lemmas.Bool.{lt-ltb, and_parts, and_from}
 use Rattle.std.proofs.lemmas.List.{reverse-append}
 use Rattle.std.specs.Global.{Vec}
 use Rattle.std.proofs.Math.Seq.{drop-nil}
@@ -21,7 +21,6 @@ use Rattle.lx_pytree.specs.declared.machine.Stop.{Stop}
 use Rattle.lx_pytree.specs.declared.machine.Stop.TheVariants as stop
 use Rattle.lx_pytree.specs.declared.machine.Turn.{Turn}
 use Rattle.lx_pytree.specs.declared.machine.Turn.TheVariants as turn
-use Rattle.lx_grammar.proofs.Checks.{left_of, right_of, both_of}
 use Rattle.lx_pytree.specs.declared.tree.PyNode.{PyNode}
 use Rattle.lx_pytree.specs.declared.tree.PyPart.{PyPart}
 use Rattle.lx_pytree.specs.declared.tree.PyPart.TheVariants as part
@@ -216,7 +215,7 @@ open_moves items m p os S r β inner new k e eo sound =
     record {
       trees = λ t. (λ h. subst (λ i. Ends f (reverse os.items) i.spot (plants f i.parts) (reverse p.items) l t) (sym new) (subst (λ O. Ends f O r end (reverse p.items) l t) (sym ro) (subst (λ T. Ends f (m.current ∷ reverse m.opens.items) r end T l t) (sym e) (open_in f (reverse m.opens.items) m.current r β S l t k h))), λ h. open_out f (reverse m.opens.items) m.current r β S l t k (subst (λ T. Ends f (m.current ∷ reverse m.opens.items) r end T l t) e (subst (λ O. Ends f O r end (reverse p.items) l t) ro (subst (λ i. Ends f (reverse os.items) i.spot (plants f i.parts) (reverse p.items) l t) new h))));
       fewer = subst (λ T. 65536 * (length items - m.at) + (length T + (length os.items + cost T)) < 65536 * (length items - m.at) + (suc (length S) + (length m.opens.items + weight r))) (sym e) (omega (arith, length_row β (step.Close ∷ S), row_falls r _ β (step.Close ∷ S) k, lo));
-      sound = record { parts = subst (λ i. parts_below (length m.nodes) i.parts ≡ true) (sym new) refl; opens = subst (λ O. opens_below (length m.nodes) O ≡ true) (sym ro) (both_of _ _ sound.parts sound.opens) };
+      sound = record { parts = subst (λ i. parts_below (length m.nodes) i.parts ≡ true) (sym new) refl; opens = subst (λ O. opens_below (length m.nodes) O ≡ true) (sym ro) (and_from _ _ sound.parts sound.opens) };
     }
 
 pub open_stuck : (items : List Item) (m : Machine) (S : List Step) (r : Spot) (t : Tree) → Picked r (drop m.at items) None → EndsIn items m (step.Do (symbol.Node r) ∷ S) t → ⊥
@@ -228,13 +227,13 @@ pub ends_more : (f g : ℕ → Tree) (n : ℕ) (os : List Open) (r : Spot) (ps :
 unfolding Ends opens_below
 ends_more f g n [] r ps S l t low e h = h
 ends_more f g n (o ∷ os) r ps S l t low e h =
-    let same : plants f o.parts ≡ plants g o.parts = plants_same f g n o.parts (left_of (parts_below n o.parts) (opens_below n os) low) e in
-    (h.0, (h.1.0, (h.1.1.0, subst (λ k. Ends g os o.spot (joined k (child (wrap (label r) h.1.0) end)) (after S) h.0 t) same (ends_more f g n os o.spot (joined (plants f o.parts) (child (wrap (label r) h.1.0) end)) (after S) h.0 t (right_of (parts_below n o.parts) (opens_below n os) low) e h.1.1.1))))
+    let same : plants f o.parts ≡ plants g o.parts = plants_same f g n o.parts (and_parts (parts_below n o.parts) (opens_below n os) low).0 e in
+    (h.0, (h.1.0, (h.1.1.0, subst (λ k. Ends g os o.spot (joined k (child (wrap (label r) h.1.0) end)) (after S) h.0 t) same (ends_more f g n os o.spot (joined (plants f o.parts) (child (wrap (label r) h.1.0) end)) (after S) h.0 t (and_parts (parts_below n o.parts) (opens_below n os) low).1 e h.1.1.1))))
 
 pub opens_more : (n m : ℕ) (os : List Open) → n ≤ m → opens_below n os ≡ true → opens_below m os ≡ true
 unfolding opens_below
 opens_more n m [] le h = refl
-opens_more n m (o ∷ os) le h = both_of _ _ (parts_more n m o.parts le (left_of (parts_below n o.parts) (opens_below n os) h)) (opens_more n m os le (right_of (parts_below n o.parts) (opens_below n os) h))
+opens_more n m (o ∷ os) le h = and_from _ _ (parts_more n m o.parts le (and_parts (parts_below n o.parts) (opens_below n os) h).0) (opens_more n m os le (and_parts (parts_below n o.parts) (opens_below n os) h).1)
 
 -- nothing is read before a node closes
 pub record Nothing (ps : Parts) (l k : List Item) (rs : Parts) : Type 0 where
@@ -273,8 +272,8 @@ close_moves items m nodes os outer qs S id eu ea len cst eo hung eq sound =
     let ro : reverse m.opens.items ≡ outer ∷ reverse os.items = ap (λ v. reverse v) eo ∙ reverse-append os.items (outer ∷ []) in
     let lo : length m.opens.items ≡ length os.items + 1 = ap (λ v. length v) eo ∙ length-append os.items (outer ∷ []) in
     let low : (parts_below n outer.parts && opens_below n (reverse os.items)) ≡ true = subst (λ v. opens_below n v ≡ true) ro sound.opens in
-    let low1 : parts_below n outer.parts ≡ true = left_of (parts_below n outer.parts) (opens_below n (reverse os.items)) low in
-    let low2 : opens_below n (reverse os.items) ≡ true = right_of (parts_below n outer.parts) (opens_below n (reverse os.items)) low in
+    let low1 : parts_below n outer.parts ≡ true = (and_parts (parts_below n outer.parts) (opens_below n (reverse os.items)) low).0 in
+    let low2 : opens_below n (reverse os.items) ≡ true = (and_parts (parts_below n outer.parts) (opens_below n (reverse os.items)) low).1 in
     let alike : (i : ℕ) → i < n → f i ≡ g i = λ i lt. sym (hung.grows.trees i lt) in
     let back : (i : ℕ) → i < n → g i ≡ f i = λ i lt. hung.grows.trees i lt in
     let ps : Parts = plants f m.current.parts in

@@ -1,6 +1,6 @@
 -- Trees in the arena.
 use Rattle.std.proofs.Common.{ℕ, true, ◌≡◌, ◌<◌, ◌≤◌, ◌++◌, nat_lt, List, [], ◌∷◌, length, refl, sym, ap, ◌∙◌, subst, arith, slice_get, Some, None, Result, Ok, Err, MatchResult}
-use Rattle.std.proofs.lemmas.Bool.{ltb-true, lt-ltb}
+use Rattle.std.proofs.lemmas.Bool.{ltb-true, lt-ltb, and_parts, and_from}
 use Rattle.lx_text.specs.declared.lists.NoMemory.{NoMemory}
 use Rattle.lx_arena.specs.Lower.{EachLower}
 use Rattle.lx_arena.specs.Folds.{IsLocal, Added}
@@ -8,7 +8,6 @@ use Rattle.lx_arena.proofs.Folds.{added_by, fold_at-is, grows_not}
 use Rattle.lx_arena.proofs.Places.{lower_more}
 use Rattle.lx_grammar.specs.declared.grammar.Rule.{Rule}
 use Rattle.lx_grammar.specs.Derives.{Tree, Grown, NoTree, end, token, child, joined, wrap}
-use Rattle.lx_grammar.proofs.Checks.{left_of, right_of, both_of}
 use Rattle.lx_pytree.specs.declared.tree.PyNode.{PyNode}
 use Rattle.lx_pytree.specs.declared.tree.PyPart.{PyPart}
 use Rattle.lx_pytree.specs.declared.tree.PyPart.TheVariants as part
@@ -22,10 +21,10 @@ use Rattle.lx_pytree.specs.Trees.{plants, node_tree, tree_at, below_node, IsSole
 pub plants_same : (f g : ℕ → Tree) (n : ℕ) (ps : List PyPart) → parts_below n ps ≡ true → ((i : ℕ) → i < n → f i ≡ g i) → plants f ps ≡ plants g ps
 unfolding plants parts_below
 plants_same f g n [] h e = refl
-plants_same f g n (part.Token x ∷ ps) h e = ap (λ qs. token x qs) (plants_same f g n ps (right_of true (parts_below n ps) h) e)
+plants_same f g n (part.Token x ∷ ps) h e = ap (λ qs. token x qs) (plants_same f g n ps (and_parts true (parts_below n ps) h).1 e)
 plants_same f g n (part.Node id ∷ ps) h e =
-    let here : f id.place ≡ g id.place = e id.place (ltb-true _ _ (left_of (nat_lt id.place n) (parts_below n ps) h)) in
-    let rest : plants f ps ≡ plants g ps = plants_same f g n ps (right_of (nat_lt id.place n) (parts_below n ps) h) e in
+    let here : f id.place ≡ g id.place = e id.place (ltb-true _ _ (and_parts (nat_lt id.place n) (parts_below n ps) h).0) in
+    let rest : plants f ps ≡ plants g ps = plants_same f g n ps (and_parts (nat_lt id.place n) (parts_below n ps) h).1 e in
     cc
 
 pub parts_more : (n m : ℕ) (ps : List PyPart) → n ≤ m → parts_below n ps ≡ true → parts_below m ps ≡ true
@@ -33,13 +32,13 @@ unfolding parts_below
 parts_more n m [] le h = refl
 parts_more n m (part.Token x ∷ ps) le h = parts_more n m ps le h
 parts_more n m (part.Node id ∷ ps) le h =
-    let lt : id.place < n = ltb-true _ _ (left_of (nat_lt id.place n) (parts_below n ps) h) in
-    both_of _ _ (lt-ltb id.place m (omega arith)) (parts_more n m ps le (right_of (nat_lt id.place n) (parts_below n ps) h))
+    let lt : id.place < n = ltb-true _ _ (and_parts (nat_lt id.place n) (parts_below n ps) h).0 in
+    and_from _ _ (lt-ltb id.place m (omega arith)) (parts_more n m ps le (and_parts (nat_lt id.place n) (parts_below n ps) h).1)
 
 pub parts_push : (n : ℕ) (ps : List PyPart) (p : PyPart) → parts_below n ps ≡ true → part_below n p ≡ true → parts_below n (ps ++ p ∷ []) ≡ true
 unfolding parts_below
-parts_push n [] p h k = both_of _ _ k refl
-parts_push n (q ∷ ps) p h k = both_of _ _ (left_of (part_below n q) (parts_below n ps) h) (parts_push n ps p (right_of (part_below n q) (parts_below n ps) h) k)
+parts_push n [] p h k = and_from _ _ k refl
+parts_push n (q ∷ ps) p h k = and_from _ _ (and_parts (part_below n q) (parts_below n ps) h).0 (parts_push n ps p (and_parts (part_below n q) (parts_below n ps) h).1 k)
 
 pub plants_push_node : (f : ℕ → Tree) (ps : List PyPart) (id : Id PyNodes) → plants f (ps ++ part.Node id ∷ []) ≡ joined (plants f ps) (child (f id.place) end)
 unfolding plants joined
@@ -80,7 +79,7 @@ hung_sole r ps nodes id low e =
     let one : parts_below (length nodes) (part.Node id ∷ []) ≡ true = subst (λ qs. parts_below (length nodes) qs ≡ true) e low in
     record {
       grows = grows_not tree_at nodes;
-      within = ltb-true _ _ (left_of (nat_lt id.place (length nodes)) true one);
+      within = ltb-true _ _ (and_parts (nat_lt id.place (length nodes)) true one).0;
       is = sym (ap (λ qs. wrap r (plants (tree_at nodes) qs)) e);
     }
 

@@ -2,7 +2,7 @@
 use Rattle.std.proofs.Common.{◌≡◌, Bool, true, false, not, ◌&&◌, ◌||◌, List, [], ◌∷◌, refl, sym}
 use Rattle.std.specs.List.{list_all, list_any}
 use Rattle.std.specs.Str.{bytes_eq}
-use Rattle.std.proofs.lemmas.Bool.{and_from, and_parts, or_parts, false_from_ne_true}
+use Rattle.std.proofs.lemmas.Bool.{and_from, and_parts, or_parts, false_from_ne_true, not-true}
 use Rattle.std.proofs.lemmas.Slice.Eq.{bytes_eq-Decides}
 use Rattle.lx_vtext.specs.Tree.{Name}
 use Rattle.lx_vmeaning.specs.Naming.{are_new}
@@ -18,10 +18,6 @@ are_distinct (n ∷ ns) = not (is_among n ns) && are_distinct ns
 -- none of the names is among those before
 abbrev are_outside : List Name → List Name → Bool
 are_outside before ns = list_all (λ n. not (is_among n before)) ns
-
-is_false : (b : Bool) → not b ≡ true → b ≡ false
-is_false true e = absurd cc
-is_false false e = refl
 
 same_turned : (n k : Name) → bytes_eq k n ≡ false → bytes_eq n k ≡ false
 same_turned n k e = false_from_ne_true (bytes_eq n k) (λ t. let same : bytes_eq k n ≡ true = (bytes_eq-Decides k n).1 (sym ((bytes_eq-Decides n k).0 t)) in cc)
@@ -39,7 +35,7 @@ new_from before [] h o = refl
 new_from before (n ∷ ns) h o =
     let p = and_parts (not (is_among n ns)) (are_distinct ns) h in
     let q = and_parts (not (is_among n before)) (are_outside before ns) o in
-    and_from (not (is_among n before)) (are_new (n ∷ before) ns) q.0 (new_from (n ∷ before) ns p.1 (outside_more n before ns (is_false (is_among n ns) p.0) q.1))
+    and_from (not (is_among n before)) (are_new (n ∷ before) ns) q.0 (new_from (n ∷ before) ns p.1 (outside_more n before ns (not-true (is_among n ns) p.0) q.1))
 
 all_outside : (ns : List Name) → are_outside [] ns ≡ true
 all_outside [] = refl

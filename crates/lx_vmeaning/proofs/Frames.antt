@@ -1,5 +1,5 @@
 -- What a net is hangs on what its driver reads alone.
-use Rattle.std.proofs.Common.{◌≡◌, ℕ, Bool, true, false, ◌∷◌, ◌||◌, ◌&&◌, ◌+◌, ◌-◌, ◌*◌, ◌^◌, ◌%◌, cond, refl, ◌∙◌, ap, max, not, nat_eq, ℤ, ◌/◌}
+use Rattle.std.proofs.Common.{◌≡◌, ℕ, Bool, true, false, ◌∷◌, ◌||◌, ◌&&◌, ◌+◌, ◌-◌, ◌*◌, ◌^◌, ◌%◌, cond, refl, ◌∙◌, ap, max, not, nat_eq, ℤ, ◌/◌, ap₂}
 use Rattle.std.specs.Str.{bytes_eq}
 use Rattle.std.proofs.lemmas.Bool.{or_left, or_right}
 use Rattle.std.proofs.lemmas.Slice.Eq.{bytes_eq-Decides}
@@ -39,26 +39,23 @@ Same v u a = (w : ℕ) (t : Bool) → a.bits v w t ≡ a.bits u w t
 leaf_same : (v u : Valuation) (n : ℕ) (s : Bool) (f : Valuation → ℕ) → f v ≡ f u → Same v u (leaf n s f)
 leaf_same v u n s f e w t = ap (λ p. extend n w t p) e
 
-two_same : {A B : Type 0} (f : A → B → ℕ) (a a' : A) (b b' : B) → a ≡ a' → b ≡ b' → f a b ≡ f a' b'
-two_same f a a' b b' e h = ap (λ x. f x b) e ∙ ap (λ y. f a' y) h
-
 compare_same : (v u : Valuation) (test : ℤ → ℤ → Bool) (a b : Meaning) → Same v u a → Same v u b → Same v u (compare test a b)
 compare_same v u test a b p q w t =
     let n = max a.width b.width in
     let s = a.signed && b.signed in
-    two_same (λ (x y : ℕ). extend 1 w t (truth (test (read_bits n s x) (read_bits n s y)))) (a.bits v n s) (a.bits u n s) (b.bits v n s) (b.bits u n s) (p n s) (q n s)
+    ap₂ (λ (x y : ℕ). extend 1 w t (truth (test (read_bits n s x) (read_bits n s y)))) (p n s) (q n s)
 
 binary_same : (v u : Valuation) (o : BinOp) (a b : Meaning) → Same v u a → Same v u b → Same v u (binary o a b)
-binary_same v u op.Add a b p q w t = two_same (add_bits w) (a.bits v w t) (a.bits u w t) (b.bits v w t) (b.bits u w t) (p w t) (q w t)
-binary_same v u op.Sub a b p q w t = two_same (sub_bits w) (a.bits v w t) (a.bits u w t) (b.bits v w t) (b.bits u w t) (p w t) (q w t)
-binary_same v u op.Mul a b p q w t = two_same (mul_bits w) (a.bits v w t) (a.bits u w t) (b.bits v w t) (b.bits u w t) (p w t) (q w t)
-binary_same v u op.And a b p q w t = two_same (and_bits w) (a.bits v w t) (a.bits u w t) (b.bits v w t) (b.bits u w t) (p w t) (q w t)
-binary_same v u op.Or a b p q w t = two_same (or_bits w) (a.bits v w t) (a.bits u w t) (b.bits v w t) (b.bits u w t) (p w t) (q w t)
-binary_same v u op.Xor a b p q w t = two_same (xor_bits w) (a.bits v w t) (a.bits u w t) (b.bits v w t) (b.bits u w t) (p w t) (q w t)
-binary_same v u op.ShiftLeft a b p q w t = two_same (λ (x k : ℕ). x * 2 ^ k % 2 ^ w) (a.bits v w t) (a.bits u w t) (own b v) (own b u) (p w t) (q b.width b.signed)
-binary_same v u op.ArithmeticLeft a b p q w t = two_same (λ (x k : ℕ). x * 2 ^ k % 2 ^ w) (a.bits v w t) (a.bits u w t) (own b v) (own b u) (p w t) (q b.width b.signed)
-binary_same v u op.ShiftRight a b p q w t = two_same (λ (x k : ℕ). x / 2 ^ k) (a.bits v w t) (a.bits u w t) (own b v) (own b u) (p w t) (q b.width b.signed)
-binary_same v u op.ArithmeticRight a b p q w t = two_same (λ (x k : ℕ). cond t (fill_shift w x k) (x / 2 ^ k)) (a.bits v w t) (a.bits u w t) (own b v) (own b u) (p w t) (q b.width b.signed)
+binary_same v u op.Add a b p q w t = ap₂ (add_bits w) (p w t) (q w t)
+binary_same v u op.Sub a b p q w t = ap₂ (sub_bits w) (p w t) (q w t)
+binary_same v u op.Mul a b p q w t = ap₂ (mul_bits w) (p w t) (q w t)
+binary_same v u op.And a b p q w t = ap₂ (and_bits w) (p w t) (q w t)
+binary_same v u op.Or a b p q w t = ap₂ (or_bits w) (p w t) (q w t)
+binary_same v u op.Xor a b p q w t = ap₂ (xor_bits w) (p w t) (q w t)
+binary_same v u op.ShiftLeft a b p q w t = ap₂ (λ (x k : ℕ). x * 2 ^ k % 2 ^ w) (p w t) (q b.width b.signed)
+binary_same v u op.ArithmeticLeft a b p q w t = ap₂ (λ (x k : ℕ). x * 2 ^ k % 2 ^ w) (p w t) (q b.width b.signed)
+binary_same v u op.ShiftRight a b p q w t = ap₂ (λ (x k : ℕ). x / 2 ^ k) (p w t) (q b.width b.signed)
+binary_same v u op.ArithmeticRight a b p q w t = ap₂ (λ (x k : ℕ). cond t (fill_shift w x k) (x / 2 ^ k)) (p w t) (q b.width b.signed)
 binary_same v u op.Less a b p q w t = compare_same v u less a b p q w t
 binary_same v u op.LessEqual a b p q w t = compare_same v u less_equal a b p q w t
 binary_same v u op.Equal a b p q w t = compare_same v u equal a b p q w t
@@ -73,7 +70,7 @@ unary_same v u Invert a p w t = ap (λ (x : ℕ). 2 ^ w - 1 - x) (p w t)
 choose_same : (v u : Valuation) (c a b : Meaning) → Same v u c → Same v u a → Same v u b → Same v u (choose c a b)
 choose_same v u c a b r p q w t =
     ap (λ (k : ℕ). cond (nat_eq k 0) (b.bits v w t) (a.bits v w t)) (r c.width c.signed)
-    ∙ two_same (λ (x y : ℕ). cond (nat_eq (own c u) 0) x y) (b.bits v w t) (b.bits u w t) (a.bits v w t) (a.bits u w t) (q w t) (p w t)
+    ∙ ap₂ (λ (x y : ℕ). cond (nat_eq (own c u) 0) x y) (q w t) (p w t)
 
 mutual
   -- an expression's bits hang on the nets that it reads, and on the memories
@@ -82,8 +79,7 @@ mutual
   meaning_same d v u (Literal bits signed value) h m w t = refl
   meaning_same d v u (PartSelect n hi lo) h m w t = ap (λ (p : ℕ). extend (hi - lo + 1) w t (p / 2 ^ lo % 2 ^ (hi - lo + 1))) (h n (same_name n))
   meaning_same d v u (Word n index) h m w t =
-      two_same (λ (f : Name → ℕ → ℕ) (k : ℕ). extend (d n).bits w t (read_word (d n).depth (f n) k)) v.words u.words (own (meaning d index) v) (own (meaning d index) u) m
-      (meaning_same d v u index h m (meaning d index).width (meaning d index).signed)
+      ap₂ (λ (f : Name → ℕ → ℕ) (k : ℕ). extend (d n).bits w t (read_word (d n).depth (f n) k)) m (meaning_same d v u index h m (meaning d index).width (meaning d index).signed)
   meaning_same d v u (Unary o a) h m w t = unary_same v u o (meaning d a) (meaning_same d v u a h m) w t
   meaning_same d v u (Binary a o b) h m w t =
       binary_same v u o (meaning d a) (meaning d b) (meaning_same d v u a (left_of v u (λ k. reads k a) (λ k. reads k b) h) m) (meaning_same d v u b (right_of v u (λ k. reads k a) (λ k. reads k b) h) m) w t
@@ -93,9 +89,7 @@ mutual
       (meaning_same d v u a (left_of v u (λ k. reads k a) (λ k. reads k b) g) m) (meaning_same d v u b (right_of v u (λ k. reads k a) (λ k. reads k b) g) m) w t
   meaning_same d v u (Concatenation a as_) h m w t =
       ap (λ p. extend (width_sum (meaning d a ∷ meanings d as_)) w t p)
-      (two_same (λ (x y : ℕ). x * 2 ^ width_sum (meanings d as_) + y) (own (meaning d a) v) (own (meaning d a) u) (concat_bits (meanings d as_) v) (concat_bits (meanings d as_) u)
-      (meaning_same d v u a (left_of v u (λ k. reads k a) (λ k. some_reads k as_) h) m (meaning d a).width (meaning d a).signed)
-      (parts_same d v u as_ (right_of v u (λ k. reads k a) (λ k. some_reads k as_) h) m))
+      (ap₂ (λ (x y : ℕ). x * 2 ^ width_sum (meanings d as_) + y) (meaning_same d v u a (left_of v u (λ k. reads k a) (λ k. some_reads k as_) h) m (meaning d a).width (meaning d a).signed) (parts_same d v u as_ (right_of v u (λ k. reads k a) (λ k. some_reads k as_) h) m))
   meaning_same d v u (Replication k a) h m w t =
       ap (λ p. extend (k * (meaning d a).width) w t (repeated k (meaning d a).width p)) (meaning_same d v u a h m (meaning d a).width (meaning d a).signed)
   meaning_same d v u (ToSigned a) h m w t = ap (λ p. extend (meaning d a).width w t p) (meaning_same d v u a h m (meaning d a).width (meaning d a).signed)
@@ -104,9 +98,7 @@ mutual
   parts_same : (d : Sizes) (v u : Valuation) (es : VExprs) → AgreeOn v u (λ k. some_reads k es) → v.words ≡ u.words → concat_bits (meanings d es) v ≡ concat_bits (meanings d es) u
   parts_same d v u NoMore h m = refl
   parts_same d v u (More a as_) h m =
-      two_same (λ (x y : ℕ). x * 2 ^ width_sum (meanings d as_) + y) (own (meaning d a) v) (own (meaning d a) u) (concat_bits (meanings d as_) v) (concat_bits (meanings d as_) u)
-      (meaning_same d v u a (left_of v u (λ k. reads k a) (λ k. some_reads k as_) h) m (meaning d a).width (meaning d a).signed)
-      (parts_same d v u as_ (right_of v u (λ k. reads k a) (λ k. some_reads k as_) h) m)
+      ap₂ (λ (x y : ℕ). x * 2 ^ width_sum (meanings d as_) + y) (meaning_same d v u a (left_of v u (λ k. reads k a) (λ k. some_reads k as_) h) m (meaning d a).width (meaning d a).signed) (parts_same d v u as_ (right_of v u (λ k. reads k a) (λ k. some_reads k as_) h) m)
 
 pub assigned_same : (d : Sizes) (v u : Valuation) (n : ℕ) (e : VExpr) → AgreeOn v u (λ k. reads k e) → v.words ≡ u.words → assigned d v n e ≡ assigned d u n e
 assigned_same d v u n e h m = ap (λ (p : ℕ). p % 2 ^ n) (meaning_same d v u e h m (max n (meaning d e).width) (meaning d e).signed)
@@ -118,7 +110,7 @@ pattern_same d v u (WholeWord n index) e h m old = refl
 pattern_same d v u (PartWord n index hi lo) e h m old = refl
 
 same_branch : (a b : Bool) (m m' n n' : ℕ) → a ≡ b → m ≡ m' → n ≡ n' → cond a m n ≡ cond b m' n'
-same_branch a b m m' n n' e h k = ap (λ z. cond z m n) e ∙ two_same (λ (x y : ℕ). cond b x y) m m' n n' h k
+same_branch a b m m' n n' e h k = ap (λ z. cond z m n) e ∙ ap₂ (λ (x y : ℕ). cond b x y) h k
 
 mutual
   pub stmt_same : (d : Sizes) (v u : Valuation) (s : VStmt) → AgreeOn v u (λ k. stmt_reads k s) → v.words ≡ u.words → (old : ℕ) → run_stmt d v s old ≡ run_stmt d u s old
