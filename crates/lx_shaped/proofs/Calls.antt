@@ -8,16 +8,19 @@ use Rattle.lx_arena.proofs.Places.{node_there}
 use Rattle.lx_circuit.specs.declared.WidthFault.{WidthFault}
 use Rattle.lx_fhdl.specs.Below.{ExprId, TargetId, StmtId}
 use Rattle.lx_fhdl.specs.Designs.{shapes}
-use Rattle.lx_fhdl.specs.Drafts.{DraftKeeps, CanAddExpr, CanAddTarget, ExprPut, TargetPut, StmtPut}
-use Rattle.lx_fhdl.specs.Instance.{the_expr, the_target, the_stmt}
+use Rattle.lx_fhdl.specs.Drafts.{MemoryPut, SignalPut, DraftKeeps, CanAddExpr, CanAddTarget, ExprPut, TargetPut, StmtPut}
+use Rattle.lx_fhdl.specs.Instance.{the_expr, the_signal, the_target, the_stmt}
 use Rattle.lx_fhdl.specs.declared.design.Design.{Design}
+use Rattle.lx_fhdl.specs.Kept.{is_memory, is_signal}
+use Rattle.lx_fhdl.specs.declared.design.Memory.{Memory}
 use Rattle.lx_fhdl.specs.declared.design.Signal.{Signal}
+use Rattle.lx_fhdl.specs.declared.exprs.SigId.{SigId}
 use Rattle.lx_fhdl.specs.declared.exprs.Expr.{Expr}
 use Rattle.lx_fhdl.specs.declared.stmts.Stmt.{Stmt}
 use Rattle.lx_fhdl.specs.declared.stmts.Target.{Target}
 use Rattle.lx_width.specs.Width.{node_result, shape_of_one}
-use Rattle.lx_shaped.specs.Making.{judged, unless, expr_stands, expr_fault, expr_shape, shape_made, make_expr, target_in, target_fault, target_width, make_target, stmt_in, make_stmt}
 use Rattle.lx_width.specs.Shapes.{AreShapes}
+use Rattle.lx_shaped.specs.Making.{judged, unless, expr_stands, expr_fault, expr_shape, shape_made, make_expr, target_in, target_fault, target_width, make_target, stmt_in, make_stmt, make_signal, make_memory}
 use Rattle.lx_shaped.specs.declared.outcome.Outcome.TheVariants.{Made, Faulty, Misplaced}
 use Rattle.lx_shaped.proofs.Additions.{can_add_expr, can_add_target, expr_stands-is}
 use Rattle.lx_shaped.proofs.Outcomes.{IsMade, judged_made, other_made, other_faulty, other_misplaced, not_there, there_faulty, unless_ok, unless_err, judged_ok, judged_err}
@@ -111,3 +114,23 @@ stmt_made x d new id b put =
 pub stmt_misplaced : (x : Stmt) (d : Design) → stmt_in x d ≡ false → (Misplaced, d) ≡ make_stmt x d
 unfolding make_stmt
 stmt_misplaced x d e = sym (not_there (stmt_in x d) None (the_stmt (length d.stmts)) (record d { stmts = d.stmts ++ x ∷ [] }) d e)
+
+-- ---- a signal, a memory
+
+pub signal_made : (x : Signal) (d new : Design) (id : SigId) → is_signal x ≡ true → SignalPut d new x id.0 → (Made id, new) ≡ make_signal x d
+unfolding make_signal
+signal_made x d new id b put =
+    rw (put.is) (ap (λ (k : ℕ). (Made (the_signal k), record d { signals = d.signals ++ x ∷ [] })) put.place ∙ sym (other_made (is_signal x) None (the_signal (length d.signals)) (record d { signals = d.signals ++ x ∷ [] }) d b refl))
+
+pub signal_misplaced : (x : Signal) (d : Design) → is_signal x ≡ false → (Misplaced, d) ≡ make_signal x d
+unfolding make_signal
+signal_misplaced x d e = sym (not_there (is_signal x) None (the_signal (length d.signals)) (record d { signals = d.signals ++ x ∷ [] }) d e)
+
+pub memory_made : (x : Memory) (d new : Design) (place : ℕ) → is_memory x ≡ true → MemoryPut d new x place → (Made place, new) ≡ make_memory x d
+unfolding make_memory
+memory_made x d new place b put =
+    rw (put.is) (ap (λ (k : ℕ). (Made k, record d { memories = d.memories ++ x ∷ [] })) put.place ∙ sym (other_made (is_memory x) None (length d.memories) (record d { memories = d.memories ++ x ∷ [] }) d b refl))
+
+pub memory_misplaced : (x : Memory) (d : Design) → is_memory x ≡ false → (Misplaced, d) ≡ make_memory x d
+unfolding make_memory
+memory_misplaced x d e = sym (not_there (is_memory x) None (length d.memories) (record d { memories = d.memories ++ x ∷ [] }) d e)

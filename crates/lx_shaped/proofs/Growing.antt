@@ -7,11 +7,13 @@ use Rattle.lx_circuit.specs.Shapes.{Shapes, shape_of}
 use Rattle.lx_circuit.specs.Statements.{target_bits}
 use Rattle.lx_fhdl.specs.Designs as design
 use Rattle.lx_fhdl.specs.Designs.{circuit_of, shapes}
-use Rattle.lx_fhdl.specs.Drafts.{ExprPut, TargetPut, StmtPut, Stays}
+use Rattle.lx_fhdl.specs.Drafts.{MemoryPut, PartsStay, SignalPut, ExprPut, TargetPut, StmtPut, Stays}
 use Rattle.lx_fhdl.specs.Nodes.{shape_at}
 use Rattle.lx_fhdl.specs.Stmts.{node_target}
 use Rattle.lx_fhdl.specs.Trees.{node_term}
 use Rattle.lx_fhdl.specs.declared.design.Design.{Design}
+use Rattle.lx_fhdl.specs.declared.design.Memory.{Memory}
+use Rattle.lx_fhdl.specs.declared.design.Signal.{Signal}
 use Rattle.lx_fhdl.specs.declared.exprs.Expr.{Expr}
 use Rattle.lx_fhdl.specs.declared.stmts.Stmt.{Stmt}
 use Rattle.lx_fhdl.specs.declared.stmts.Target.{Target}
@@ -92,3 +94,17 @@ sizes_stmt old new x id hs bs h put =
       exprs = exprs_stay old new hs same put.stays (ap (λ (d : Design). length d.exprs) put.is) h.exprs;
       targets = targets_stay old new bs same put.stays (ap (λ (d : Design). length d.targets) put.is) h.targets;
     }
+
+-- ---- a signal or a memory more
+
+sizes_stay : (old new : Design) (hs : List Shape) (bs : List ℕ) → PartsStay old new → length new.exprs ≡ length old.exprs → length new.targets ≡ length old.targets → HasSizes old hs bs → HasSizes new hs bs
+sizes_stay old new hs bs parts n m h = record {
+  exprs = record { long = h.exprs.long ∙ sym n; each = λ k l. let p : k < length old.exprs = omega (arith, n) in h.exprs.each k p ∙ sym (parts.expr_shapes k p) };
+  targets = record { long = h.targets.long ∙ sym m; each = λ k l. let p : k < length old.targets = omega (arith, m) in h.targets.each k p ∙ sym (parts.target_bits k p) };
+}
+
+pub sizes_signal : (old new : Design) (x : Signal) (id : ℕ) (hs : List Shape) (bs : List ℕ) → HasSizes old hs bs → SignalPut old new x id → HasSizes new hs bs
+sizes_signal old new x id hs bs h put = sizes_stay old new hs bs put.parts (ap (λ (d : Design). length d.exprs) put.is) (ap (λ (d : Design). length d.targets) put.is) h
+
+pub sizes_memory : (old new : Design) (x : Memory) (id : ℕ) (hs : List Shape) (bs : List ℕ) → HasSizes old hs bs → MemoryPut old new x id → HasSizes new hs bs
+sizes_memory old new x id hs bs h put = sizes_stay old new hs bs put.parts (ap (λ (d : Design). length d.exprs) put.is) (ap (λ (d : Design). length d.targets) put.is) h

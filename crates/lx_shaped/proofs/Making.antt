@@ -1,20 +1,25 @@
 -- What making does to a draft.
-use Rattle.std.proofs.Common.{◌≡◌, Bool, true, false, [], ◌∷◌, ◌++◌, length, Option, Some, None, refl, ap}
+use Rattle.std.proofs.Common.{◌≡◌, ℕ, Bool, true, false, [], ◌∷◌, ◌++◌, length, Option, Some, None, refl, ap}
 use Rattle.lx_arena.proofs.Places.{lower_more}
 use Rattle.lx_circuit.specs.declared.WidthFault.{WidthFault}
 use Rattle.lx_fhdl.specs.Below.{ExprId, TargetId, StmtId, expr_below, target_below, stmt_below}
-use Rattle.lx_fhdl.specs.Drafts.{DraftKeeps, CanAddExpr, CanAddTarget, CanAddStmt, ExprPut, TargetPut, StmtPut, Stays}
-use Rattle.lx_fhdl.specs.Instance.{the_expr, the_target, the_stmt}
+use Rattle.lx_fhdl.specs.Drafts.{DraftKeeps, IsDraft, CanAddExpr, CanAddTarget, CanAddStmt, ExprPut, MemoryPut, SignalPut, TargetPut, StmtPut, Stays}
+use Rattle.lx_fhdl.specs.Instance.{the_expr, the_signal, the_target, the_stmt}
+use Rattle.lx_fhdl.specs.Kept.{is_memory, is_signal}
 use Rattle.lx_fhdl.specs.declared.design.Design.{Design}
+use Rattle.lx_fhdl.specs.declared.design.Memory.{Memory}
+use Rattle.lx_fhdl.specs.declared.design.Signal.{Signal}
 use Rattle.lx_fhdl.specs.declared.exprs.Expr.{Expr}
+use Rattle.lx_fhdl.specs.declared.exprs.SigId.{SigId}
 use Rattle.lx_fhdl.specs.declared.stmts.Stmt.{Stmt}
 use Rattle.lx_fhdl.specs.declared.stmts.Target.{Target}
-use Rattle.lx_fhdl.proofs.Drafts.{expr_put, expr_keeps, target_put, target_keeps, stmt_put, stmt_keeps, stays_same}
+use Rattle.lx_fhdl.proofs.Drafts.{expr_put, expr_keeps, memory_draft, memory_put, signal_draft, signal_put, target_put, target_keeps, stmt_put, stmt_keeps, stays_same}
 use Rattle.lx_shaped.specs.Laws.{MadeStands, OldStays}
-use Rattle.lx_shaped.specs.Making.{judged, tried, make_expr, make_stmt, make_target, expr_stands, expr_fault, target_in, target_fault, stmt_in}
+use Rattle.lx_shaped.specs.Making.{judged, tried, make_expr, make_memory, make_signal, make_stmt, make_target, expr_stands, expr_fault, target_in, target_fault, stmt_in}
 use Rattle.lx_shaped.specs.declared.outcome.Outcome.{Outcome}
 use Rattle.lx_shaped.specs.declared.outcome.Outcome.TheVariants.{Made, Faulty, Misplaced}
 use Rattle.lx_shaped.proofs.Additions.{can_add_expr, can_add_target, can_add_stmt}
+use Rattle.lx_shaped.proofs.Owned.{is_memory-is, is_signal-is}
 
 -- what was made passed the test, has no fault, and is what was added
 made_by : {T : Type 0} (b : Bool) (f : Option WidthFault) (m id : T) (new old d : Design) → (Made id, d) ≡ tried (judged b f m) new old → (b ≡ true) × (f ≡ None) × (id ≡ m) × (d ≡ new)
@@ -67,8 +72,20 @@ made_stmt d new x id keep e =
     let h = made_by (stmt_in x d) None (the_stmt (length d.stmts)) id (record d { stmts = d.stmts ++ x ∷ [] }) d new e in
     rw (h.3, h.2) (put_stmt d x keep (can_add_stmt x d h.0)).0
 
+made_signal : (d new : Design) (x : Signal) (id : SigId) → IsDraft d → (Made id, new) ≡ make_signal x d → SignalPut d new x id.0
+unfolding make_signal
+made_signal d new x id draft e =
+    let h = made_by (is_signal x) None (the_signal (length d.signals)) id (record d { signals = d.signals ++ x ∷ [] }) d new e in
+    rw (h.3, h.2) (signal_put d x draft)
+
+made_memory : (d new : Design) (x : Memory) (place : ℕ) → IsDraft d → (Made place, new) ≡ make_memory x d → MemoryPut d new x place
+unfolding make_memory
+made_memory d new x place draft e =
+    let h = made_by (is_memory x) None (length d.memories) place (record d { memories = d.memories ++ x ∷ [] }) d new e in
+    rw (h.3, h.2) (memory_put d x draft)
+
 pub made_stands : MadeStands
-made_stands = record { expr = made_expr; target = made_target; stmt = made_stmt }
+made_stands = record { expr = made_expr; target = made_target; stmt = made_stmt; signal = made_signal; memory = made_memory }
 
 abbrev Kept : Design → Design → Type 0
 Kept d new = DraftKeeps new × Stays d new
@@ -94,5 +111,22 @@ old_stmt d x keep =
     (λ h e. let p = put_stmt d x keep (can_add_stmt x d h) in (p.1, p.0.stays))
     (keep, stays_same d)
 
+abbrev StillDraft : Design → Design → Type 0
+StillDraft d new = IsDraft new × Stays d new
+
+old_signal : (d : Design) (x : Signal) → IsDraft d → StillDraft d (make_signal x d).1
+unfolding make_signal
+old_signal d x draft =
+    after (StillDraft d) (is_signal x) None (the_signal (length d.signals)) (record d { signals = d.signals ++ x ∷ [] }) d
+    (λ h e. (signal_draft d x draft (is_signal-is x h), (signal_put d x draft).stays))
+    (draft, stays_same d)
+
+old_memory : (d : Design) (x : Memory) → IsDraft d → StillDraft d (make_memory x d).1
+unfolding make_memory
+old_memory d x draft =
+    after (StillDraft d) (is_memory x) None (length d.memories) (record d { memories = d.memories ++ x ∷ [] }) d
+    (λ h e. (memory_draft d x draft (is_memory-is x h), (memory_put d x draft).stays))
+    (draft, stays_same d)
+
 pub old_stays : OldStays
-old_stays = record { expr = old_expr; target = old_target; stmt = old_stmt }
+old_stays = record { expr = old_expr; target = old_target; stmt = old_stmt; signal = old_signal; memory = old_memory }

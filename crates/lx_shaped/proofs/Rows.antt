@@ -4,8 +4,8 @@ use Rattle.lx_arena.specs.Folds.{fold_at}
 use Rattle.lx_fhdl.specs.Designs.{circuit_of}
 use Rattle.lx_fhdl.specs.Stmts.{target_at, stmt_at}
 use Rattle.lx_fhdl.specs.Trees.{term_at}
-use Rattle.lx_shaped.specs.Making.{make_expr, make_stmt, make_target, shape_made}
-use Rattle.lx_shaped.specs.Worked.{AreMade, AreFaulty, HaveNoPlace, AreAssigned}
+use Rattle.lx_shaped.specs.Making.{make_expr, make_memory, make_signal, make_stmt, make_target, shape_made}
+use Rattle.lx_shaped.specs.Worked.{AreMade, AreFaulty, HaveNoPlace, AreAssigned, AreDeclared}
 
 pub made : AreMade
 unfolding circuit_of fold_at term_at target_at stmt_at make_expr make_stmt make_target shape_made
@@ -54,4 +54,18 @@ assigned = record {
   under = refl;
   no_condition = refl;
   no_statement = refl;
+}
+
+pub declared : AreDeclared
+unfolding make_memory make_signal
+declared = record {
+  signal = refl;
+  no_bits = refl;
+  too_many_bits = refl;
+  reset_past_the_bits = refl;
+  no_identifier = refl;
+  words = refl;
+  no_words = refl;
+  more_contents = refl;
+  wide_contents = refl;
 }

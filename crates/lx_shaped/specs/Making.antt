@@ -7,11 +7,14 @@ use Rattle.lx_circuit.specs.Statements.{target_bits}
 use Rattle.lx_fhdl.specs.Below.{ExprId, TargetId, StmtId, expr_below, target_below, stmt_below}
 use Rattle.lx_fhdl.specs.Designs as design
 use Rattle.lx_fhdl.specs.Designs.{shapes}
-use Rattle.lx_fhdl.specs.Instance.{the_expr, the_target, the_stmt}
-use Rattle.lx_fhdl.specs.Kept.{takes_operands, has_parts, has_plain_index, names_there, target_stands, stmt_stands}
+use Rattle.lx_fhdl.specs.Instance.{the_expr, the_signal, the_target, the_stmt}
+use Rattle.lx_fhdl.specs.Kept.{is_memory, is_signal, takes_operands, has_parts, has_plain_index, names_there, target_stands, stmt_stands}
 use Rattle.lx_fhdl.specs.Stmts.{node_target}
 use Rattle.lx_fhdl.specs.Trees.{node_term}
+use Rattle.lx_fhdl.specs.declared.design.Memory.{Memory}
+use Rattle.lx_fhdl.specs.declared.design.Signal.{Signal}
 use Rattle.lx_fhdl.specs.declared.exprs.Expr.{Expr}
+use Rattle.lx_fhdl.specs.declared.exprs.SigId.{SigId}
 use Rattle.lx_fhdl.specs.declared.stmts.Stmt.{Stmt}
 use Rattle.lx_fhdl.specs.declared.stmts.Target.{Target}
 use Rattle.lx_fhdl.specs.declared.design.Design.{Design}
@@ -87,3 +90,13 @@ stmt_in x d = stmt_below x (length d.stmts) && stmt_stands (length d.exprs) (len
 -- A statement is added at the end.
 unfoldable pub make_stmt : Stmt → Design → Outcome StmtId × Design
 make_stmt x d = tried (judged (stmt_in x d) None (the_stmt (length d.stmts))) (record d { stmts = d.stmts ++ x ∷ [] }) d
+
+-- ---- signals and memories
+
+-- A signal is added at the end.
+unfoldable pub make_signal : Signal → Design → Outcome SigId × Design
+make_signal x d = tried (judged (is_signal x) None (the_signal (length d.signals))) (record d { signals = d.signals ++ x ∷ [] }) d
+
+-- A memory is added at the end.
+unfoldable pub make_memory : Memory → Design → Outcome ℕ × Design
+make_memory x d = tried (judged (is_memory x) None (length d.memories)) (record d { memories = d.memories ++ x ∷ [] }) d

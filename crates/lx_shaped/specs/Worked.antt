@@ -11,7 +11,7 @@ use Rattle.lx_fhdl.specs.declared.stmts.Target.TheVariants as target
 use Rattle.lx_fhdl.specs.declared.stmts.Stmt.TheVariants as stmt
 use Rattle.lx_fhdl.specs.declared.design.Design.{Design}
 use Rattle.lx_fhdl.specs.declared.design.Memory.{Memory}
-use Rattle.lx_shaped.specs.Making.{make_expr, make_stmt, make_target, shape_made, shape_there}
+use Rattle.lx_shaped.specs.Making.{make_expr, make_memory, make_signal, make_stmt, make_target, shape_made, shape_there}
 use Rattle.lx_shaped.specs.declared.outcome.Outcome.TheVariants.{Made, Faulty, Misplaced}
 
 -- three words of eight bits
@@ -76,3 +76,15 @@ pub record AreAssigned : Type 0 where
   pub under : (make_stmt (stmt.If (record { cond = the_expr 0; body = the_stmt 0 ∷ [] } ∷ []) [] 9) some).0 ≡ Made (the_stmt 1)
   pub no_condition : make_stmt (stmt.If (record { cond = the_expr 3; body = the_stmt 0 ∷ [] } ∷ []) [] 9) some ≡ (Misplaced, some)
   pub no_statement : make_stmt (stmt.Case (the_expr 0) [] (the_stmt 1 ∷ []) 9) some ≡ (Misplaced, some)
+
+-- signals and memories
+pub record AreDeclared : Type 0 where
+  pub signal : (make_signal (signal_of (codes "b") 64 1) some).0 ≡ Made (the_signal 2)
+  pub no_bits : make_signal (signal_of (codes "b") 0 0) some ≡ (Misplaced, some)
+  pub too_many_bits : make_signal (signal_of (codes "b") 65 0) some ≡ (Misplaced, some)
+  pub reset_past_the_bits : make_signal (signal_of (codes "b") 4 16) some ≡ (Misplaced, some)
+  pub no_identifier : make_signal (signal_of (codes "2b") 4 0) some ≡ (Misplaced, some)
+  pub words : (make_memory (record memory { init = 255 ∷ 0 ∷ 7 ∷ [] }) some).0 ≡ Made 1
+  pub no_words : make_memory (record memory { depth = 0 }) some ≡ (Misplaced, some)
+  pub more_contents : make_memory (record memory { init = 0 ∷ 0 ∷ 0 ∷ 0 ∷ [] }) some ≡ (Misplaced, some)
+  pub wide_contents : make_memory (record memory { init = 256 ∷ [] }) some ≡ (Misplaced, some)

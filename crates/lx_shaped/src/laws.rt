@@ -1,7 +1,7 @@
 //! Laws of making, and instances worked by hand.
 
 ghost use Rattle.lx_shaped.specs.Laws.{MadeStands, OldStays};
-ghost use Rattle.lx_shaped.specs.Worked.{AreAssigned, AreFaulty, AreMade, HaveNoPlace};
+ghost use Rattle.lx_shaped.specs.Worked.{AreAssigned, AreDeclared, AreFaulty, AreMade, HaveNoPlace};
 
 /// What was made stands at its place, and what stood stays.
 pub fn making_law()
@@ -15,4 +15,5 @@ pub fn makings_are_worked()
     ensures faulty { AreFaulty }
     ensures misplaced { HaveNoPlace }
     ensures assigned { AreAssigned }
+    ensures declared { AreDeclared }
 {}

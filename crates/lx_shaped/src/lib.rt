@@ -4,6 +4,7 @@
 
 pub mod laws;
 mod outcome;
+mod parts;
 mod shaped;
 mod sizes;
 mod standing;

@@ -1,6 +1,6 @@
 //! The draft, and what it makes.
 
-ghost use Rattle.std.specs.Prelude.{◌≡◌, ◌<◌, not, length, slice_get, IfOk, IsTrue, OnErr, option_copied};
+ghost use Rattle.std.specs.Prelude.{[], ◌≡◌, ◌<◌, not, length, slice_get, IfOk, IsTrue, OnErr, option_copied};
 ghost use Rattle.lx_circuit.specs.Shapes.{shape_of};
 ghost use Rattle.lx_fhdl.specs.Below.{expr_below};
 ghost use Rattle.lx_fhdl.specs.Designs as designs;
@@ -10,9 +10,10 @@ ghost use Rattle.lx_fhdl.specs.Keeping.{EachOf, IsMemory, IsSignal};
 ghost use Rattle.lx_fhdl.specs.Kept as kept;
 ghost use Rattle.lx_fhdl.specs.declared.stmts.Target.TheVariants as target;
 ghost use Rattle.lx_shaped.specs.Making as making;
-ghost use Rattle.lx_shaped.specs.Making.{expr_shape, make_expr, make_stmt, make_target, shape_made, shape_there, stmt_in, target_in, target_width};
+ghost use Rattle.lx_shaped.specs.Making.{expr_shape, make_expr, make_memory, make_signal, make_stmt, make_target, shape_made, shape_there, stmt_in, target_in, target_width};
 
 use crate::outcome::Outcome;
+use crate::parts::{is_memory, is_signal};
 use crate::sizes::{most_of_bits, narrow, sum_of_bits};
 use crate::standing::{has_parts, names_there, stmt_stands, takes_operands};
 use lx_arena::Node;
@@ -50,6 +51,37 @@ impl Model for Shaped {
 }
 
 impl Shaped {
+    /// A draft with nothing in it.
+    pub fn new(alloc: Global) -> Shaped
+        ensures { result ≡ started [] [] }
+    {
+        Shaped::start(alloc, List::new(alloc), List::new(alloc))
+    }
+
+    /// Adds a signal, unless it can be part of no design.
+    pub fn signal(&mut self, signal: Signal) -> Result<Outcome<SigId>, NoMemory>
+        ensures ok { IfOk result (λ made. (made, self.new) ≡ make_signal signal self.old) }
+        ensures err { OnErr result (self.new ≡ self.old) }
+    {
+        if !is_signal(&signal) {
+            return Ok(Outcome::Misplaced);
+        }
+        let id = self.draft.push_signal(signal)?;
+        Ok(Outcome::Made(id))
+    }
+
+    /// Adds a memory, unless it can be part of no design.
+    pub fn memory(&mut self, memory: Memory) -> Result<Outcome<usize>, NoMemory>
+        ensures ok { IfOk result (λ made. (made, self.new) ≡ make_memory memory self.old) }
+        ensures err { OnErr result (self.new ≡ self.old) }
+    {
+        if !is_memory(&memory) {
+            return Ok(Outcome::Misplaced);
+        }
+        let place = self.draft.push_memory(memory)?;
+        Ok(Outcome::Made(place))
+    }
+
     /// A draft with these signals and memories, and nothing else.
     pub fn start(alloc: Global, signals: List<Signal>, memories: List<Memory>) -> Shaped
         requires signals { EachOf IsSignal signals }

@@ -163,7 +163,7 @@ pub struct SyncItem {
 /// A module that was added, and whether by a name.
 #[derive(Clone, Copy)]
 pub struct Submodule {
-    pub module: usize,
+    pub place: usize,
     pub named: bool,
 }
 

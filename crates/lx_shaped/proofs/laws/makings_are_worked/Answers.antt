@@ -1,4 +1,4 @@
-use Rattle.lx_shaped.proofs.Rows.{made, faulty, misplaced, assigned}
+use Rattle.lx_shaped.proofs.Rows.{made, faulty, misplaced, assigned, declared}
 use Rattle.lx_shaped.proofs.laws.makings_are_worked.Goals as goal
 
 pub returns-clause-made : goal.returns-clause-made
@@ -12,3 +12,6 @@ returns-clause-misplaced c = misplaced
 
 pub returns-clause-assigned : goal.returns-clause-assigned
 returns-clause-assigned c = assigned
+
+pub returns-clause-declared : goal.returns-clause-declared
+returns-clause-declared c = declared
