@@ -6,6 +6,7 @@ use Rattle.std.proofs.lemmas.List.{length-append}
 use Rattle.std.proofs.lemmas.Bool.{cases_lt, cases_eq}
 use Rattle.lx_fhdl.specs.declared.places.Numbered.{Numbered}
 use Rattle.lx_alloc.specs.Numbers.{IsStated, IsGiven, CanStand, IsPart, IsUsed, IsLowestFree, AreLeast, AreNumbered}
+use Rattle.lx_alloc.proofs.Stand.{get_left, get_last}
 
 abbrev pub IsIn : List ℕ → ℕ → Type 0
 IsIn xs n = (j : ℕ) × (slice_get xs j ≡ Some n)
@@ -106,17 +107,8 @@ get_push (y ∷ xs) x (suc i) n e = elim (get_push xs x i n e) [
   | inr before ↦ inr (omega (arith, before.0), before.1)
 ]
 
-pub push_get : (xs : List ℕ) (x i n : ℕ) → slice_get xs i ≡ Some n → slice_get (xs ++ x ∷ []) i ≡ Some n
-push_get [] x i n e = cc
-push_get (y ∷ xs) x zero n e = e
-push_get (y ∷ xs) x (suc i) n e = push_get xs x i n e
-
-pub push_last : (xs : List ℕ) (x i : ℕ) → i ≡ length xs → slice_get (xs ++ x ∷ []) i ≡ Some x
-push_last [] x i e = rw e refl
-push_last (y ∷ xs) x i e = rw e (push_last xs x (length xs) refl)
-
 given_push : (xs : List ℕ) (x i p : ℕ) → IsGiven i xs p → IsGiven i (xs ++ x ∷ []) p
-given_push xs x i p (k, l, e) = (k, l, push_get xs x k p e)
+given_push xs x i p (k, l, e) = (k, l, get_left xs x k p e)
 
 -- one number more: it is at most 31, no wish but its own states it, no other has it, and it is the lowest such
 part_more : (wished : List (Option ℕ)) (numbers : List ℕ) (n : ℕ) → IsPart wished numbers → length numbers < length wished → n ≤ 31 →
@@ -128,10 +120,10 @@ part_more : (wished : List (Option ℕ)) (numbers : List ℕ) (n : ℕ) → IsPa
 part_more wished numbers n part more small own fresh other lowest = record {
   few = omega (arith, length-append numbers (n ∷ []));
   stand = λ i m l e. elim (cases_lt i (length numbers)) [
-    | inl before ↦ push_get numbers n i m (part.stand i m before e)
+    | inl before ↦ get_left numbers n i m (part.stand i m before e)
     | inr last ↦
         let same : i ≡ length numbers = omega (arith, length-append numbers (n ∷ [])) in
-        push_last numbers n i same ∙ ap Some (own m (sym (ap (slice_get wished) same) ∙ e))
+        (ap (slice_get (numbers ++ n ∷ [])) same ∙ get_last numbers n) ∙ ap Some (own m (sym (ap (slice_get wished) same) ∙ e))
   ];
   within = λ i m e. elim (get_push numbers n i m e) [ inl last ↦ omega (arith, last.1) | inr before ↦ part.within i m before.1 ];
   distinct = λ i j m e f. elim (get_push numbers n i m e) [

@@ -5,6 +5,7 @@ use Rattle.std.specs.Str.{bytes_eq}
 use Rattle.std.proofs.lemmas.Slice.Eq.{bytes_eq-Decides}
 use Rattle.std.proofs.lemmas.Option.{slice_get_within, slice_get_cases}
 use Rattle.std.proofs.lemmas.Bool.{cases_lt, cases_eq, cases_Bool, ltb-false, eq-eqb, false≢true}
+use Rattle.std.proofs.lemmas.List.{length-map}
 use Rattle.lx_text.specs.declared.faults.Fault.{Fault}
 use Rattle.lx_fhdl.specs.declared.places.Fix.{Fix}
 use Rattle.lx_fhdl.specs.declared.places.BankWish.{BankWish}
@@ -20,21 +21,17 @@ map_get h [] i y e = cc
 map_get h (x ∷ xs) zero y e = (x, refl, cc)
 map_get h (x ∷ xs) (suc i) y e = map_get h xs i y e
 
-map_length : {X Y : Type 0} (h : X → Y) (xs : List X) → length (map h xs) ≡ length xs
-map_length h [] = refl
-map_length h (x ∷ xs) = ap suc (map_length h xs)
-
 flat_none : {X : Type 0} (f : X → List Fault) (xs : List X) (i : ℕ) (x : X) → flat_map f xs ≡ [] → slice_get xs i ≡ Some x → f x ≡ []
 flat_none f [] i x none e = cc
 flat_none f (y ∷ ys) zero x none e = let same : y ≡ x = cc in subst (λ z. f z ≡ []) same (no_parts (f y) _ none).0
 flat_none f (y ∷ ys) (suc i) x none e = flat_none f ys i x (no_parts (f y) _ none).1 e
 
-get_left : {X : Type 0} (xs : List X) (y : X) (i : ℕ) (x : X) → slice_get xs i ≡ Some x → slice_get (xs ++ y ∷ []) i ≡ Some x
+pub get_left : {X : Type 0} (xs : List X) (y : X) (i : ℕ) (x : X) → slice_get xs i ≡ Some x → slice_get (xs ++ y ∷ []) i ≡ Some x
 get_left [] y i x e = cc
 get_left (z ∷ zs) y zero x e = e
 get_left (z ∷ zs) y (suc i) x e = get_left zs y i x e
 
-get_last : {X : Type 0} (xs : List X) (y : X) → slice_get (xs ++ y ∷ []) (length xs) ≡ Some y
+pub get_last : {X : Type 0} (xs : List X) (y : X) → slice_get (xs ++ y ∷ []) (length xs) ≡ Some y
 get_last [] y = refl
 get_last (z ∷ zs) y = get_last zs y
 
@@ -92,7 +89,7 @@ irqs_stand managers irqs none =
     let c = no_parts (each_pair (taken_faults Interrupts) [] irqs) _ b.1 in
     let few = few_of Interrupts (map (λ irq. irq.line) irqs) c.1 in
     record {
-      few = omega (arith, few, map_length (λ (irq : Fix). irq.line) irqs, map_length (λ (irq : Fix). irq.number) irqs);
+      few = omega (arith, few, length-map irqs (λ (irq : Fix). irq.line), length-map irqs (λ (irq : Fix). irq.number));
       small = λ i n e.
           let at = map_get (λ (irq : Fix). irq.number) irqs i (Some n) e in
           small_of Interrupts at.0 n (flat_none (range_faults Interrupts) irqs i at.0 b.0 at.1) at.2;
@@ -129,7 +126,7 @@ banks_stand fixes banks distinct none =
     let d = no_parts (flat_map full_faults banks) _ c.1 in
     let few = few_of Banks (map (λ bank. bank.line) banks) d.1 in
     record {
-      few = omega (arith, few, map_length (λ (bank : BankWish). bank.line) banks, map_length (λ (bank : BankWish). number_of fixes bank.name) banks);
+      few = omega (arith, few, length-map banks (λ (bank : BankWish). bank.line), length-map banks (λ (bank : BankWish). number_of fixes bank.name));
       small = λ i n e.
           let at = map_get (λ (bank : BankWish). number_of fixes bank.name) banks i (Some n) e in
           let fix = found fixes at.0.name n at.2 in

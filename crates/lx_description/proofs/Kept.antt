@@ -1,20 +1,14 @@
 -- The test of what a description keeps: where it is true, the description keeps it.
-use Rattle.std.proofs.Common.{◌≡◌, ℕ, pos, ◌+◌, ◌-◌, ◌/◌, ◌^◌, ◌<◌, ◌≤◌, Bool, true, false, ◌&&◌, ◌||◌, not, List, [], ◌∷◌, Option, Some, None, length, slice_get, nat_lt, nat_le, nat_eq, refl, ap, ◌∙◌, arith, inl, inr}
+use Rattle.std.proofs.Common.{◌≡◌, ℕ, pos, ◌+◌, ◌-◌, ◌/◌, ◌^◌, ◌<◌, ◌≤◌, Bool, true, false, ◌&&◌, ◌||◌, not, List, [], ◌∷◌, Option, Some, None, length, slice_get, nat_lt, nat_le, nat_eq, refl, ap, arith, inl, inr}
 use Rattle.std.specs.Prelude.{IfSome, IsSomeAnd, IsTrue, codes, flat_map}
 use Rattle.std.specs.List.{list_all}
-use Rattle.std.specs.Str.{bytes_eq}
-use Rattle.std.proofs.Math.Nat.{pow-le-pow_right}
-use Rattle.std.proofs.lemmas.Bool.{ltb-true, leb-true, eqb-true, and_parts, or_cases, not-true, cases_lt}
+use Rattle.std.proofs.lemmas.Bool.{ltb-true, leb-true, eqb-true, and_parts, or_cases, not-true}
 use Rattle.std.proofs.lemmas.Bool.Decides.{Decides-int_eq}
 use Rattle.std.proofs.lemmas.Slice.Eq.{bytes_eq-Decides}
-use Rattle.lx_num.specs.declared.Shape.{Shape}
 use Rattle.lx_num.specs.Ints.{shape, unsigned, wrapped}
-use Rattle.lx_num.specs.Fewest.{IsFewestBits}
-use Rattle.lx_num.proofs.Ranges.{fits_pos, pos_fits}
 use Rattle.lx_arena.proofs.Places.{all_at-is, all_at-lower, node_there}
-use Rattle.lx_fhdl.specs.Designs.{shapes}
-use Rattle.lx_fhdl.specs.Keeping.{EachOf, IsAddress, IsUnsigned, block_depth}
-use Rattle.lx_fhdl.specs.Kept.{is_address, is_fewest, is_unsigned}
+use Rattle.lx_fhdl.specs.Keeping.{IsAddress, IsUnsigned, block_depth}
+use Rattle.lx_fhdl.specs.Kept.{is_address, is_unsigned}
 use Rattle.lx_fhdl.specs.Nodes.{is_fetch}
 use Rattle.lx_fhdl.specs.declared.exprs.SigId.{SigId}
 use Rattle.lx_fhdl.specs.declared.exprs.Expr.{Expr}
@@ -23,7 +17,7 @@ use Rattle.lx_fhdl.specs.declared.design.Signal.{Signal}
 use Rattle.lx_fhdl.specs.declared.design.Domain.{Domain}
 use Rattle.lx_fhdl.specs.declared.design.Design.{Design}
 use Rattle.lx_fhdl.specs.declared.places.RegionWish.{RegionWish}
-use Rattle.lx_fhdl.proofs.Kept.{is_kept-is}
+use Rattle.lx_fhdl.proofs.Kept.{is_kept-is, each_of, shape_is, is_unsigned-is, is_address-is}
 use Rattle.lx_description.specs.Below.{fsm_below}
 use Rattle.lx_description.specs.Fsms.{assigned}
 use Rattle.lx_description.specs.Wires.{AreBusPorts, BusPort, HasWires, IsWire, Wire, bus_ports, given, interface_wires, left, register_wires, source_wires}
@@ -49,61 +43,12 @@ use Rattle.lx_description.specs.declared.fsms.FsmPlace.{FsmPlace}
 use Rattle.lx_description.specs.declared.fsms.FsmDecl.{FsmDecl}
 use Rattle.lx_description.specs.declared.description.Description.{Description}
 
--- a test of each item
-each_of : {T : Type 0} (P : T → Type 0) (test : T → Bool) (xs : List T) → ((x : T) → test x ≡ true → P x) → list_all test xs ≡ true → EachOf P xs
-each_of P test [] f h = tt
-each_of P test (x ∷ xs) f h = let p = and_parts _ _ h in (f x p.0, each_of P test xs f p.1)
-
 empty-is : {T : Type 0} (xs : List T) → is_empty xs ≡ true → xs ≡ []
 empty-is [] h = refl
 empty-is (x ∷ xs) h = absurd (cc)
 
-same_bytes : (a b : List ℕ) → bytes_eq a b ≡ true → a ≡ b
-same_bytes a b h = (bytes_eq-Decides a b).0 h
-
 between : (low high n : ℕ) → (nat_le low n && nat_le n high) ≡ true → (low ≤ n) × (n ≤ high)
 between low high n h = let p = and_parts _ _ h in (leb-true low n p.0, leb-true n high p.1)
-
--- ---- signals of designs
-
-shape_is : (a : Shape) (n : ℕ) → a.bits ≡ n → a.signed ≡ false → a ≡ unsigned n
-shape_is a n e f = ap (λ (m : ℕ). shape m a.signed) e ∙ ap (λ (s : Bool). shape n s) f
-
-is_unsigned-is : (d : Design) (n : ℕ) (x : SigId) → is_unsigned d n x ≡ true → IsUnsigned d n x
-is_unsigned-is d n x h =
-    let p = and_parts _ _ h in
-    let q = and_parts _ _ p.1 in
-    record { there = ltb-true x.0 (length d.signals) p.0; shape = shape_is (shapes d x.0) n (eqb-true (shapes d x.0).bits n q.0) (not-true _ q.1) }
-
-not_fewer : (a n k : ℕ) → (nat_eq n 1 || nat_le (2 ^ (n - 1)) a) ≡ true → 1 ≤ k → a < 2 ^ k → n ≤ k
-not_fewer a n k h some l =
-    elim (or_cases (nat_eq n 1) (nat_le (2 ^ (n - 1)) a) h) [
-      | inl e ↦ omega (arith, eqb-true n 1 e, some)
-      | inr e ↦
-          elim (cases_lt k n) [
-            | inl less ↦
-                let two : 0 < 2 = omega arith in
-                let up : k ≤ n - 1 = omega arith in
-                absurd (omega (arith, leb-true (2 ^ (n - 1)) a e, pow-le-pow_right two up))
-            | inr more ↦ more
-          ]
-    ]
-
-is_fewest-is : (a n : ℕ) → is_fewest a n ≡ true → IsFewestBits (pos a) n
-is_fewest-is a n h =
-    let p = and_parts _ _ h in
-    let q = and_parts _ _ p.1 in
-    record {
-      some = leb-true 1 n p.0;
-      enough = fits_pos n a (ltb-true a (2 ^ n) q.0);
-      fewest = λ k some fits. not_fewer a n k q.1 some (pos_fits k a fits);
-    }
-
-is_address-is : (d : Design) (depth : ℕ) (x : SigId) → is_address d depth x ≡ true → IsAddress d depth x
-is_address-is d depth x h =
-    let p = and_parts _ _ h in
-    let q = and_parts _ _ p.1 in
-    record { there = ltb-true x.0 (length d.signals) p.0; plain = not-true _ q.0; fewest = is_fewest-is (depth - 1) (shapes d x.0).bits q.1 }
 
 -- ---- signals of declarations
 
@@ -138,7 +83,7 @@ have_wires-is d (x ∷ xs) [] h = absurd (cc)
 
 has_path-is : (name : List ℕ) (path : List (List ℕ)) → has_path name path ≡ true → path ≡ name ∷ []
 has_path-is name [] h = absurd (cc)
-has_path-is name (p ∷ []) h = ap (λ (q : List ℕ). q ∷ []) (same_bytes p name h)
+has_path-is name (p ∷ []) h = ap (λ (q : List ℕ). q ∷ []) ((bytes_eq-Decides p name).0 h)
 has_path-is name (p ∷ q ∷ ps) h = absurd (cc)
 
 are_bus_ports-is : (ss : List Signal) (ps : List BusPort) → are_bus_ports ss ps ≡ true → AreBusPorts ss ps
@@ -238,7 +183,7 @@ is_module-is d m k h =
 
 is_top-is : (name : List ℕ) (ms : List ModuleDecl) → is_top name ms ≡ true → IsSomeAnd (slice_get ms 0) (λ m. m.name ≡ name)
 is_top-is name [] h = absurd (cc)
-is_top-is name (m ∷ ms) h = same_bytes m.name name h
+is_top-is name (m ∷ ms) h = (bytes_eq-Decides m.name name).0 h
 
 modules_keep-is : (d : Description) → modules_keep d ≡ true → ModulesKeep d
 modules_keep-is d h =
@@ -331,7 +276,7 @@ is_first_region-is w h =
     let p = and_parts _ _ h in
     let q = and_parts _ _ p.1 in
     let r = and_parts _ _ q.1 in
-    record { name = same_bytes w.name (codes "csr") p.0; origin = not-true _ q.0; size = eqb-true w.size 65536 r.0; uncached = not-true _ r.1 }
+    record { name = (bytes_eq-Decides w.name (codes "csr")).0 p.0; origin = not-true _ q.0; size = eqb-true w.size 65536 r.0; uncached = not-true _ r.1 }
 
 is_memory_region-is : (w : RegionWish) (contents : List ℕ) → is_memory_region w contents ≡ true → IsMemoryRegion w contents
 is_memory_region-is w contents h =
@@ -355,7 +300,7 @@ have_slaves-is d [] [] h = tt
 have_slaves-is d (w ∷ ws) (s ∷ ss) h =
     let p = and_parts _ _ h in
     let q = and_parts _ _ p.0 in
-    ((same_bytes s.name w.name q.0, answers-is d w s.kind q.1), have_slaves-is d ws ss p.1)
+    (((bytes_eq-Decides s.name w.name).0 q.0, answers-is d w s.kind q.1), have_slaves-is d ws ss p.1)
 have_slaves-is d [] (s ∷ ss) h = absurd (cc)
 have_slaves-is d (w ∷ ws) [] h = absurd (cc)
 
@@ -365,7 +310,7 @@ regions_stand-is d (w ∷ ws) ss h = let p = and_parts _ _ h in (is_first_region
 
 is_clocked-is : (xs : List Domain) → is_clocked xs ≡ true → IsSomeAnd (slice_get xs 0) IsClocked
 is_clocked-is [] h = absurd (cc)
-is_clocked-is (x ∷ xs) h = let p = and_parts _ _ h in (same_bytes x.name (codes "sys") p.0, not-true _ p.1)
+is_clocked-is (x ∷ xs) h = let p = and_parts _ _ h in ((bytes_eq-Decides x.name (codes "sys")).0 p.0, not-true _ p.1)
 
 is_system-is : (d : Description) → is_system d ≡ true → IsSystem d
 is_system-is d h =

@@ -2,7 +2,7 @@
 use Rattle.std.proofs.Common.{◌≡◌, ℕ, zero, suc, ◌+◌, ◌<◌, Bool, true, false, ◌||◌, List, [], ◌∷◌, ◌++◌, Option, Some, None, length, nat_eq, slice_get, refl, subst, arith, inl, inr, if◌then◌else◌}
 use Rattle.std.specs.Prelude.{IfSome, IsTrue}
 use Rattle.std.specs.List.{list_any}
-use Rattle.std.proofs.lemmas.Bool.{and_parts, eqb-true, or_cases}
+use Rattle.std.proofs.lemmas.Bool.{and_parts, eqb-true, or_cases, or_from}
 use Rattle.lx_arena.proofs.Places.{all_at-lower}
 use Rattle.lx_circuit.specs.Statements.{drives_block}
 use Rattle.lx_circuit.specs.Circuit as circuit
@@ -30,10 +30,6 @@ no_sync : (b : Bool) (k : ℕ) (r : Role) → (if b then Sync k else r) ≡ Inpu
 no_sync true k r e = absurd (cc)
 no_sync false k r e = (refl, e)
 
-neither : (a b : Bool) → a ≡ false → b ≡ false → (a || b) ≡ false
-neither true b e f = absurd (cc)
-neither false b e f = f
-
 abbrev drives_some : ℕ → List circuit.Domain → Bool
 drives_some x ds = list_any (λ (y : circuit.Domain). drives_block x y.stmts) ds
 
@@ -41,12 +37,12 @@ no_domain : (x k : ℕ) (ds : List circuit.Domain) (other : Role) → sync_role 
 no_domain x k [] other e = refl
 no_domain x k (y ∷ ys) other e =
     let p = no_sync (drives_block x y.stmts) k (sync_role x (k + 1) ys other) e in
-    neither (drives_block x y.stmts) (drives_some x ys) p.0 (no_domain x (k + 1) ys other p.1)
+    or_from (drives_block x y.stmts) (drives_some x ys) p.0 (no_domain x (k + 1) ys other p.1)
 
 idle : (c : Circuit) (x : ℕ) → role c x ≡ Input → (drives_block x c.comb || (drives_some x c.domains || false)) ≡ false
 idle c x e =
     let p = no_comb (drives_block x c.comb) _ e in
-    neither (drives_block x c.comb) (drives_some x c.domains || false) p.0 (neither (drives_some x c.domains) false (no_domain x 0 c.domains _ p.1) refl)
+    or_from (drives_block x c.comb) (drives_some x c.domains || false) p.0 (or_from (drives_some x c.domains) false (no_domain x 0 c.domains _ p.1) refl)
 
 -- ---- a reset is an input
 

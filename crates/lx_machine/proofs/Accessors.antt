@@ -1,6 +1,6 @@
 -- Whole accessors: all words of a register, one access after the other.
 use Rattle.std.proofs.Common.{◌≡◌, ◌≢◌, ℕ, ℤ, pos, Bool, true, false, List, [], ◌∷◌, Option, Some, None, ◌+◌, ◌*◌, ◌/◌, ◌%◌, ◌^◌, ◌<◌, ◌≤◌, ◌⊎◌, inl, inr, ◌||◌, ◌&&◌, ◌++◌, cond, not, refl, sym, ◌∙◌, ap, subst, nat_eq, nat_le, eq-eqb, is_some, slice_get, zero, suc, zero-add, arith}
-use Rattle.std.proofs.lemmas.Bool.{ne_eqb, le-leb, lt-leb, or_parts, or_right, both_ways, eqb-true}
+use Rattle.std.proofs.lemmas.Bool.{ne_eqb, le-leb, lt-leb, or_parts, or_right, both_ways, eqb-true, and_parts, cond_both}
 use Rattle.std.proofs.lemmas.Nat.{pow_pos, mod_below}
 use Rattle.lx_num.specs.Ints.{modulo, field_of}
 use Rattle.lx_num.proofs.Ints.{modulo-below}
@@ -31,10 +31,6 @@ among_by false w o b e h = h e
 or_more : (t a b : Bool) → (t || a) ≡ true → (a ≡ true → b ≡ true) → (t || b) ≡ true
 or_more true a b e h = refl
 or_more false a b e h = h e
-
-and_second : (a b : Bool) → (a && b) ≡ true → b ≡ true
-and_second true b e = e
-and_second false b e = absurd cc
 
 not_first : (a b : Bool) → (not a && b) ≡ true → a ≡ false
 not_first true b e = absurd cc
@@ -72,7 +68,7 @@ among_second a (x ∷ xs) ys e = or_right (nat_eq x a) (is_among a (xs ++ ys)) (
 -- and in a list without repeats it stands once
 distinct_second : (xs ys : List ℕ) → is_distinct (xs ++ ys) ≡ true → is_distinct ys ≡ true
 distinct_second [] ys d = d
-distinct_second (x ∷ xs) ys d = distinct_second xs ys (and_second (not (is_among x (xs ++ ys))) (is_distinct (xs ++ ys)) d)
+distinct_second (x ∷ xs) ys d = distinct_second xs ys (and_parts (not (is_among x (xs ++ ys))) (is_distinct (xs ++ ys)) d).1
 
 distinct_apart : (a : ℕ) (xs ys : List ℕ) → is_distinct (xs ++ ys) ≡ true → is_among a ys ≡ true → is_among a xs ≡ false
 distinct_apart a [] ys d m = refl
@@ -80,7 +76,7 @@ distinct_apart a (x ∷ xs) ys d m =
     by_test (nat_eq x a)
     (λ e. absurd (both_ways (is_among x (xs ++ ys)) (not_first (is_among x (xs ++ ys)) (is_distinct (xs ++ ys)) d)
     (let same : x ≡ a = eqb-true x a e in let P : ℕ → Type 0 = λ n. is_among n (xs ++ ys) ≡ true in subst P (sym same) (among_second a xs ys m))))
-    (λ e. ap (λ z. z || is_among a xs) e ∙ distinct_apart a xs ys (and_second (not (is_among x (xs ++ ys))) (is_distinct (xs ++ ys)) d) m)
+    (λ e. ap (λ z. z || is_among a xs) e ∙ distinct_apart a xs ys (and_parts (not (is_among x (xs ++ ys))) (is_distinct (xs ++ ys)) d).1 m)
 
 -- a word of one register of the list has an address of the list
 address_among : (a k : ℕ) (r : Register) (rs : List Register) → slice_get rs k ≡ Some r → is_among a (word_addresses r.words) ≡ true → is_among a (addresses_of rs) ≡ true
@@ -258,13 +254,9 @@ pub record IsBelow (size : ℕ) (b : Bus) (k : ℕ) : Type 0 where
 abbrev pub Below : System → Bus → Type 0
 Below y b = (k : ℕ) (r : Register) → register y k ≡ Some r → IsBelow r.size b k
 
-choice_below : (c : Bool) (m n size : ℕ) → m < 2 ^ size → n < 2 ^ size → cond c m n < 2 ^ size
-choice_below true m n size h k = h
-choice_below false m n size h k = k
-
 device_below : (d : Option Device) (size : ℕ) (v : Values) (old : ℕ) → old < 2 ^ size → device_next d size v old < 2 ^ size
 device_below None size v old h = h
-device_below (Some d) size v old h = choice_below (is_on v d.we) (modulo (v (At d.dat_w)) (2 ^ size)) old size (modulo-below (v (At d.dat_w)) (2 ^ size) (pow_pos size)) h
+device_below (Some d) size v old h = cond_both (is_on v d.we) (modulo (v (At d.dat_w)) (2 ^ size)) old (λ z. z < 2 ^ size) (λ e. (modulo-below (v (At d.dat_w)) (2 ^ size) (pow_pos size))) (λ e. h)
 
 written_below : (atomic last : Bool) (d b size : ℕ) (o : Option CsrWord) (z : ℤ) → d < 2 ^ size → b < 2 ^ size → ((w : CsrWord) → o ≡ Some w → w.low + w.len ≤ size) → storage_written atomic last d b o z < 2 ^ size
 written_below true true d b size None z h k i = h

@@ -1,8 +1,10 @@
 -- What the bus does at the two edges of an access.
-use Rattle.std.proofs.Common.{◌≡◌, ℕ, ℤ, Bool, true, false, List, [], ◌∷◌, Option, Some, None, ◌*◌, ◌/◌, ◌&&◌, cond, not, refl, sym, ◌∙◌, ap, eq-eqb}
+use Rattle.std.proofs.Common.{◌≡◌, ℕ, ℤ, true, false, List, [], ◌∷◌, Option, Some, None, ◌*◌, ◌/◌, ◌&&◌, cond, not, refl, sym, ◌∙◌, ap, eq-eqb}
+use Rattle.std.proofs.Math.Bool.{and-false}
 use Rattle.lx_circuit.specs.Places.{Values}
-use Rattle.lx_circuit.specs.Values.{flag, is_zero, count_of}
+use Rattle.lx_circuit.specs.Values.{is_zero, count_of}
 use Rattle.lx_circuit.specs.Circuit.{Step, is_reset, domain_at}
+use Rattle.lx_circuit.proofs.Values.{flag_on}
 use Rattle.lx_machine.specs.Map.{Register}
 use Rattle.lx_machine.specs.System.{System, Target, Csr}
 use Rattle.lx_machine.specs.Bus.{Bus, Phase, Idle, Answering, is_on, is_csr, is_user, asks, offers, writes, reads, csr_writes, csr_reads, written_word, address, selected, target, target_of, place_of, word_at, answers, offer_word, edge, is_last, is_last_of}
@@ -56,10 +58,6 @@ asks_is y q v h =
     ap (λ z. not z && (is_on v y.port.cyc && is_on v y.port.stb)) h.reset
     ∙ (ap (λ z. not (is_zero z) && is_on v y.port.stb) h.cyc ∙ ap (λ z. not (is_zero z)) h.stb)
 
-flag_on : (b : Bool) → not (is_zero (flag b)) ≡ b
-flag_on true = refl
-flag_on false = refl
-
 pub we_is : (y : System) (q : Ask) (v : Values) → Asks y q v → is_on v y.port.we ≡ q.writes
 we_is y q v h = ap (λ z. not (is_zero z)) h.we ∙ flag_on q.writes
 
@@ -107,15 +105,11 @@ offers_taken y q b v z r h i =
     ∙ (ap (λ (p : Phase). not (answers p (selected y v))) i
     ∙ ap (λ e. not e) (eq-eqb (place_of y q.addr) (selected y v) (sym (selected_is y q v r h))))
 
-and_none : (a : Bool) → (a && false) ≡ false
-and_none true = refl
-and_none false = refl
-
 pub writes_taken : (y : System) (q : Ask) (b : Bus) (v : Values) (z : ℕ) → Reaches y q → Asks y q v → b.phase ≡ Answering (place_of y q.addr) z → csr_writes y b v ≡ false
-writes_taken y q b v z r h i = ap (λ e. is_csr (target y v) && (e && is_on v y.port.we)) (offers_taken y q b v z r h i) ∙ and_none (is_csr (target y v))
+writes_taken y q b v z r h i = ap (λ e. is_csr (target y v) && (e && is_on v y.port.we)) (offers_taken y q b v z r h i) ∙ and-false (is_csr (target y v))
 
 pub reads_taken : (y : System) (q : Ask) (b : Bus) (v : Values) (z : ℕ) → Reaches y q → Asks y q v → b.phase ≡ Answering (place_of y q.addr) z → csr_reads y b v ≡ false
-reads_taken y q b v z r h i = ap (λ e. is_csr (target y v) && (e && not (is_on v y.port.we))) (offers_taken y q b v z r h i) ∙ and_none (is_csr (target y v))
+reads_taken y q b v z r h i = ap (λ e. is_csr (target y v) && (e && not (is_on v y.port.we))) (offers_taken y q b v z r h i) ∙ and-false (is_csr (target y v))
 
 pub phase_closed : (y : System) (q : Ask) (b : Bus) (v : Values) (z : ℕ) → Reaches y q → Asks y q v → b.phase ≡ Answering (place_of y q.addr) z → (edge y b v).phase ≡ Idle
 phase_closed y q b v z r h i = ap (λ e. cond e (Answering (selected y v) (offer_word y b v)) Idle) (offers_taken y q b v z r h i)

@@ -1,6 +1,6 @@
 -- What a settled valuation has at inputs, and at the signals that the bus gives.
-use Rattle.std.proofs.Common.{◌≡◌, ℕ, Bool, true, false, List, [], ◌∷◌, ◌++◌, Option, Some, ◌+◌, ◌⊎◌, inl, inr, ◌||◌, ◌&&◌, cond, not, refl, sym, ◌∙◌, ap, subst, nat_eq, zero, suc, eq-eqb, slice_get, zero-add, arith}
-use Rattle.std.proofs.lemmas.Bool.{eqb-true, or_parts}
+use Rattle.std.proofs.Common.{◌≡◌, ℕ, Bool, true, false, List, [], ◌∷◌, ◌++◌, Option, Some, ◌+◌, ◌⊎◌, inl, inr, cond, not, refl, sym, ◌∙◌, ap, subst, nat_eq, zero, suc, eq-eqb, slice_get, zero-add, arith}
+use Rattle.std.proofs.lemmas.Bool.{eqb-true, or_parts, and_parts, not-true, false≢true}
 use Rattle.lx_circuit.specs.Places.{Values, At}
 use Rattle.lx_circuit.specs.Circuit.{by_role, role, is_among, Role}
 use Rattle.lx_circuit.proofs.Cases.{by_test}
@@ -36,24 +36,6 @@ pub among_right : (g : Given) (xs ys : List Given) → Among g ys → Among g (x
 among_right g [] ys m = m
 among_right g (x ∷ xs) ys m = inr (among_right g xs ys m)
 
-or_false : (a b : Bool) → a ≡ false → b ≡ false → (a || b) ≡ false
-or_false a b e h = ap (λ z. z || b) e ∙ h
-
-and_left : (a b : Bool) → (a && b) ≡ true → a ≡ true
-and_left true b e = refl
-and_left false b e = absurd cc
-
-and_right : (a b : Bool) → (a && b) ≡ true → b ≡ true
-and_right true b e = e
-and_right false b e = absurd cc
-
-not_true : (a : Bool) → not a ≡ true → a ≡ false
-not_true true e = absurd cc
-not_true false e = refl
-
-false_is_true : {P : Type 0} → false ≡ true → P
-false_is_true e = absurd cc
-
 -- a signal that is in no row is none of them
 apart_from : (x : ℕ) (g : Given) (gs : List Given) → is_among x (signals_of gs) ≡ false → Among g gs → nat_eq g.signal x ≡ false
 apart_from x g [] e m = absurd m
@@ -63,7 +45,7 @@ apart_from x g (h ∷ hs) e (inr m) = apart_from x g hs (or_parts (nat_eq h.sign
 turned : (a b : ℕ) → nat_eq a b ≡ false → nat_eq b a ≡ false
 turned a b e =
     by_test (nat_eq b a)
-    (λ t. false_is_true (sym e ∙ eq-eqb a b (sym (eqb-true b a t))))
+    (λ t. absurd (false≢true (sym e ∙ eq-eqb a b (sym (eqb-true b a t)))))
     (λ f. f)
 
 first_by : (t : Bool) (h g : Given) (o : Option Given) → t ≡ false → o ≡ Some g → cond t (Some h) o ≡ Some g
@@ -75,10 +57,10 @@ given_among g (h ∷ hs) d (inl e) =
     subst (λ (z : Given). given_at g.signal (z ∷ hs) ≡ Some g) (sym e)
     (ap (λ z. cond z (Some g) (given_at g.signal hs)) (eq-eqb g.signal g.signal refl))
 given_among g (h ∷ hs) d (inr m) =
-    let a = not_true (is_among h.signal (signals_of hs)) (and_left (not (is_among h.signal (signals_of hs))) (is_distinct (signals_of hs)) d) in
+    let a = not-true (is_among h.signal (signals_of hs)) (and_parts (not (is_among h.signal (signals_of hs))) (is_distinct (signals_of hs)) d).0 in
     first_by (nat_eq h.signal g.signal) h g (given_at g.signal hs)
     (turned g.signal h.signal (apart_from h.signal g hs a m))
-    (given_among g hs (and_right (not (is_among h.signal (signals_of hs))) (is_distinct (signals_of hs)) d) m)
+    (given_among g hs (and_parts (not (is_among h.signal (signals_of hs))) (is_distinct (signals_of hs)) d).1 m)
 
 -- ---- the rows of a register, and of the port
 

@@ -1,5 +1,5 @@
 -- What the bus gives hangs on what its row reads.
-use Rattle.std.proofs.Common.{◌≡◌, ℕ, ℤ, pos, Bool, true, false, List, [], ◌∷◌, ◌++◌, Option, Some, None, ◌+◌, ◌*◌, ◌^◌, ◌||◌, ◌&&◌, cond, not, refl, sym, ◌∙◌, ap, nat_eq, zero, suc, eq-eqb, is_some, slice_index_or}
+use Rattle.std.proofs.Common.{◌≡◌, ℕ, ℤ, pos, Bool, true, false, List, [], ◌∷◌, ◌++◌, Option, Some, None, ◌+◌, ◌*◌, ◌^◌, ◌||◌, ◌&&◌, cond, not, refl, sym, ◌∙◌, ap, nat_eq, zero, suc, eq-eqb, is_some, slice_index_or, ap₂}
 use Rattle.lx_num.specs.Ints.{modulo}
 use Rattle.lx_circuit.specs.Places.{Values, At}
 use Rattle.lx_circuit.specs.Values.{flag, is_zero, count_of}
@@ -92,9 +92,6 @@ reads_same y b v w h =
 found_same : (y : System) (v w : Values) (r : Register) → v (At y.port.adr) ≡ w (At y.port.adr) → word_at r.words (address y v) ≡ word_at r.words (address y w)
 found_same y v w r e = ap (λ (z : ℤ). word_at r.words (4 * count_of z)) e
 
-both_same : (a a' b b' : Bool) → a ≡ a' → b ≡ b' → (a && b) ≡ (a' && b')
-both_same a a' b b' e h = ap (λ z. z && b) e ∙ ap (λ z. a' && z) h
-
 -- ---- registers
 
 fields_hang : (k : ℕ) (fs : List FieldSignal) → Each Hangs (gives_fields k fs)
@@ -107,13 +104,11 @@ shown_hangs k (Some s) = ((λ b v w h. refl), ((λ b v w h. refl), fields_hang k
 
 written_same : (y : System) (b : Bus) (v w : Values) (r : Register) → Agree v w (offer_reads y) → is_written y b v r ≡ is_written y b w r
 written_same y b v w r h =
-    both_same (csr_writes y b v) (csr_writes y b w) (is_some (word_at r.words (address y v))) (is_some (word_at r.words (address y w)))
-    (writes_same y b v w h) (ap (λ (o : Option CsrWord). is_some o) (found_same y v w r h.0))
+    ap₂ (λ (c d : Bool). c && d) (writes_same y b v w h) (ap (λ (o : Option CsrWord). is_some o) (found_same y v w r h.0))
 
 read_same : (y : System) (b : Bus) (v w : Values) (r : Register) → Agree v w (offer_reads y) → is_read y b v r ≡ is_read y b w r
 read_same y b v w r h =
-    both_same (csr_reads y b v) (csr_reads y b w) (is_some (word_at r.words (address y v))) (is_some (word_at r.words (address y w)))
-    (reads_same y b v w h) (ap (λ (o : Option CsrWord). is_some o) (found_same y v w r h.0))
+    ap₂ (λ (c d : Bool). c && d) (reads_same y b v w h) (ap (λ (o : Option CsrWord). is_some o) (found_same y v w r h.0))
 
 kind_hangs : (y : System) (k : ℕ) (r : Register) (kd : Kind) → Each Hangs (gives_kind y k r kd)
 kind_hangs y k r (Storage s) = shown_hangs k s.shown

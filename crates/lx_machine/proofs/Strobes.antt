@@ -1,5 +1,5 @@
 -- The strobes of storages and statuses after an access.
-use Rattle.std.proofs.Common.{◌≡◌, ℕ, Bool, Option, Some, ◌&&◌, not, refl, sym, ◌∙◌, ap, subst, inl, inr}
+use Rattle.std.proofs.Common.{◌≡◌, ℕ, Bool, Option, Some, ◌&&◌, not, refl, sym, ◌∙◌, ap, subst, inl, inr, ap₂}
 use Rattle.lx_circuit.specs.Places.{Values, At}
 use Rattle.lx_circuit.specs.Values.{flag}
 use Rattle.lx_machine.specs.Map.{Shown, StorageParts, Kind, Storage, Status, Register}
@@ -19,9 +19,6 @@ use Rattle.lx_machine.proofs.Accessors.{shown_rows}
 strobe_is : (y : System) (b : Bus) (v : Values) (k : ℕ) (r : Register) (kd : Kind) → register y k ≡ Some r → r.kind ≡ kd → (edge y b v).strobe k ≡ (tells y b v kd && is_last_of y v r)
 strobe_is y b v k r kd e f = ap (λ (o : Option Register). strobe_next y b v o) e ∙ ap (λ (d : Kind). tells y b v d && is_last_of y v r) f
 
-both_are : (a a' b b' : Bool) → a ≡ a' → b ≡ b' → (a && b) ≡ (a' && b')
-both_are a a' b b' e f = ap (λ z. z && b) e ∙ ap (λ z. a' && z) f
-
 pub storage_strobe : (y : System) (q : Ask) (t : Trace) (new : State) → CsrRan y q t new
     → (k : ℕ) (r : Register) (s : StorageParts) (h : Shown) → register y k ≡ Some r → r.kind ≡ Storage s → s.shown ≡ Some h
     → Each (λ v. v (At h.re) ≡ flag (q.writes && is_last r.words q.addr)) (after_edge y t.steps t.values)
@@ -31,7 +28,7 @@ storage_strobe y q t new c k r s h e kd sh =
     let w = taking y t in
     let strobe : (taken_bus y t).strobe k ≡ (q.writes && is_last r.words q.addr) =
     strobe_is y b w k r (Storage s) e kd
-    ∙ both_are (tells y b w (Storage s)) q.writes (is_last_of y w r) (is_last r.words q.addr) (writes_idle y q b w n.reaches n.taking_asks n.idle) (last_is y q w r n.reaches n.taking_asks) in
+    ∙ ap₂ (λ (c d : Bool). c && d) (writes_idle y q b w n.reaches n.taking_asks n.idle) (last_is y q w r n.reaches n.taking_asks) in
     each_map (SettledAt y (taken_bus y t)) (λ v. v (At h.re) ≡ flag (q.writes && is_last r.words q.addr)) (after_edge y t.steps t.values)
     (λ v p.
     let st : State = record { held = p.0; bus = taken_bus y t } in
@@ -49,7 +46,7 @@ status_strobe y q t new c k r status we e kd =
     let w = taking y t in
     let strobe : (taken_bus y t).strobe k ≡ (not q.writes && is_last r.words q.addr) =
     strobe_is y b w k r (Status status we) e kd
-    ∙ both_are (tells y b w (Status status we)) (not q.writes) (is_last_of y w r) (is_last r.words q.addr) (reads_idle y q b w n.reaches n.taking_asks n.idle) (last_is y q w r n.reaches n.taking_asks) in
+    ∙ ap₂ (λ (c d : Bool). c && d) (reads_idle y q b w n.reaches n.taking_asks n.idle) (last_is y q w r n.reaches n.taking_asks) in
     each_map (SettledAt y (taken_bus y t)) (λ v. v (At we) ≡ flag (not q.writes && is_last r.words q.addr)) (after_edge y t.steps t.values)
     (λ v p.
     let st : State = record { held = p.0; bus = taken_bus y t } in

@@ -1,6 +1,6 @@
 -- The small system meets the premises of the laws.
 use Rattle.std.proofs.Common.{◌≡◌, ◌≢◌, ℕ, Bool, true, false, List, [], ◌∷◌, Option, Some, ◌<◌, inl, inr, ◌||◌, ◌&&◌, cond, refl, sym, ◌∙◌, ap, subst, nat_eq, nat_lt, slice_index_or, lit<, lit≤, zero, suc, arith}
-use Rattle.std.proofs.lemmas.Bool.{eqb-true, ltb-true, or_cases, both_ways}
+use Rattle.std.proofs.lemmas.Bool.{eqb-true, ltb-true, or_cases, both_ways, and_parts}
 use Rattle.lx_circuit.specs.Places.{Place, At, Word, Kept, is_at}
 use Rattle.lx_circuit.specs.Circuit.{is_among}
 use Rattle.lx_circuit.specs.Reads.{reads_block, reads_in}
@@ -31,21 +31,13 @@ abbrev rows_ordered : List Given → Bool
 rows_ordered [] = true
 rows_ordered (g ∷ gs) = reads_ordered (tiny_rank (At g.signal)) g.reads && rows_ordered gs
 
-and_first : (a b : Bool) → (a && b) ≡ true → a ≡ true
-and_first true b e = refl
-and_first false b e = absurd cc
-
-and_second : (a b : Bool) → (a && b) ≡ true → b ≡ true
-and_second true b e = e
-and_second false b e = absurd cc
-
 read_below : (n : ℕ) (zs : List ℕ) (z : ℕ) → reads_ordered n zs ≡ true → is_among z zs ≡ true → tiny_rank (At z) < n
 read_below n [] z o m = absurd cc
 read_below n (x ∷ xs) z o m =
-    let first = and_first (nat_lt (tiny_rank (At x)) n) (reads_ordered n xs) o in
+    let first = (and_parts (nat_lt (tiny_rank (At x)) n) (reads_ordered n xs) o).0 in
     elim (or_cases (nat_eq x z) (is_among z xs) m) [
       | inl e ↦ let same : x ≡ z = eqb-true x z e in let P : ℕ → Type 0 = λ i. tiny_rank (At i) < n in subst P same (ltb-true (tiny_rank (At x)) n first)
-      | inr e ↦ read_below n xs z (and_second (nat_lt (tiny_rank (At x)) n) (reads_ordered n xs) o) e
+      | inr e ↦ read_below n xs z (and_parts (nat_lt (tiny_rank (At x)) n) (reads_ordered n xs) o).1 e
     ]
 
 place_below : (n : ℕ) (zs : List ℕ) (q : Place) → reads_ordered n zs ≡ true → is_signal_of zs q ≡ true → tiny_rank q < n
@@ -63,8 +55,8 @@ rows_below [] x q c o h e = h e
 rows_below (g ∷ gs) x q c o h e =
     row_by (nat_eq g.signal x) g (given_at x gs) q c (tiny_rank (At x))
     (λ t m. let same : g.signal ≡ x = eqb-true g.signal x t in let P : ℕ → Type 0 = λ i. tiny_rank q < tiny_rank (At i) in
-    subst P same (place_below (tiny_rank (At g.signal)) g.reads q (and_first (reads_ordered (tiny_rank (At g.signal)) g.reads) (rows_ordered gs) o) m))
-    (λ k. rows_below gs x q c (and_second (reads_ordered (tiny_rank (At g.signal)) g.reads) (rows_ordered gs) o) h k) e
+    subst P same (place_below (tiny_rank (At g.signal)) g.reads q (and_parts (reads_ordered (tiny_rank (At g.signal)) g.reads) (rows_ordered gs) o).0 m))
+    (λ k. rows_below gs x q c (and_parts (reads_ordered (tiny_rank (At g.signal)) g.reads) (rows_ordered gs) o).1 h k) e
 
 -- the slave's ack reads its cyc, and nothing else is read in a statement
 nothing_read : (x : ℕ) (q : Place) (a b : Bool) → nat_eq 48 x ≡ a → is_at 44 q ≡ b → reads_block x q tiny_comb ≡ ((a && (b || false)) || ((nat_eq 47 x && false) || false))
@@ -102,8 +94,8 @@ all_small (x ∷ xs) = nat_lt x 4 && all_small xs
 
 all_below : (xs : List ℕ) (k : ℕ) → all_small xs ≡ true → slice_index_or xs k 0 < 4
 all_below [] k e = lit< tt
-all_below (x ∷ xs) zero e = ltb-true x 4 (and_first (nat_lt x 4) (all_small xs) e)
-all_below (x ∷ xs) (suc k) e = all_below xs k (and_second (nat_lt x 4) (all_small xs) e)
+all_below (x ∷ xs) zero e = ltb-true x 4 (and_parts (nat_lt x 4) (all_small xs) e).0
+all_below (x ∷ xs) (suc k) e = all_below xs k (and_parts (nat_lt x 4) (all_small xs) e).1
 
 pub tiny_below : (p : Place) → tiny_rank p < 4
 tiny_below (At x) = all_below tiny_ranks x refl

@@ -6,9 +6,6 @@ use Rattle.std.proofs.lemmas.Bool.{ltb-true}
 use Rattle.std.proofs.lemmas.Slice.Eq.{bytes_eq-Decides}
 use Rattle.lx_names.specs.Tables.{Table, look_up, place_of, with_name, without, names, AreDistinct, TableHolds}
 
-same_self : (name : List ℕ) → bytes_eq name name ≡ true
-same_self name = (bytes_eq-Decides name name).1 refl
-
 -- one of two names that are the same differs from a third where the other does
 same_apart : (a b other : List ℕ) → bytes_eq a b ≡ true → bytes_eq other a ≡ false → bytes_eq other b ≡ false
 same_apart a b other h e = subst (λ (n : List ℕ). bytes_eq other n ≡ false) ((bytes_eq-Decides a b).0 h) e
@@ -20,7 +17,7 @@ turned a b h = by (bytes_eq b a) refl
     by false e = e
     by true e =
         let p : b ≡ a = (bytes_eq-Decides b a).0 e in
-        absurd (true≢false (sym (subst (λ (n : List ℕ). bytes_eq a n ≡ true) (sym p) (same_self a)) ∙ h))
+        absurd (true≢false (sym (subst (λ (n : List ℕ). bytes_eq a n ≡ true) (sym p) ((bytes_eq-Decides a a).1 refl)) ∙ h))
 
 chosen : {A : Type 0} (b t : Bool) (x y : A) → b ≡ t → cond b x y ≡ cond t x y
 chosen b t x y e = ap (λ (c : Bool). cond c x y) e
@@ -28,7 +25,7 @@ chosen b t x y e = ap (λ (c : Bool). cond c x y) e
 -- ---- set
 
 set : {T : Type 0} (es : Table T) (name : List ℕ) (value : T) → look_up (with_name es name value) name ≡ Some value
-set [] name value = ap (λ (b : Bool). cond b (Some value) None) (same_self name)
+set [] name value = ap (λ (b : Bool). cond b (Some value) None) ((bytes_eq-Decides name name).1 refl)
 set {T} (e ∷ es) name value = by (bytes_eq name e.0) refl (set es name value)
   where
     by : (b : Bool) → bytes_eq name e.0 ≡ b → look_up (with_name es name value) name ≡ Some value → look_up (cond b ((e.0, value) ∷ es) (e ∷ with_name es name value)) name ≡ Some value

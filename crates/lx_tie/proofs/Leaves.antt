@@ -1,6 +1,6 @@
 -- Patterns in wider contexts, and expressions that stand for a number exactly.
-use Rattle.std.proofs.Common.{◌≡◌, ℕ, ℤ, pos, negsuc, Bool, true, false, [], ◌∷◌, ◌+◌, ◌-◌, ◌*◌, ◌%◌, ◌^◌, ◌<◌, ◌≤◌, cond, nat_le, nat_eq, max, refl, sym, ◌∙◌, ap, arith}
-use Rattle.std.proofs.Math.Nat.{pow-le-pow_right, mod-eq_of_lt}
+use Rattle.std.proofs.Common.{◌≡◌, ℕ, ℤ, pos, negsuc, Bool, true, false, [], ◌∷◌, ◌+◌, ◌-◌, ◌*◌, ◌%◌, ◌^◌, ◌<◌, ◌≤◌, cond, nat_le, nat_eq, max, refl, sym, ◌∙◌, ap, arith, pow_mono}
+use Rattle.std.proofs.Math.Nat.{mod-eq_of_lt}
 use Rattle.std.proofs.lemmas.Bool.{cond-true, cond-false, le-leb, lt-leb, ne_eqb}
 use Rattle.std.proofs.lemmas.Bool.Decides.{same_from_decides, Decides-eqb, Decides-int_eq, Decides-like}
 use Rattle.std.specs.Ordering.{int_eq}
@@ -11,9 +11,6 @@ use Rattle.lx_vmeaning.specs.Meaning.{Valuation, Meaning, extend, own, leaf, lit
 use Rattle.lx_tie.specs.Rows.{widened}
 use Rattle.lx_tie.specs.Stands.{Exact, Drives, Spreads}
 
-pub pow_le : (n w : ℕ) → n ≤ w → 2 ^ n ≤ 2 ^ w
-pow_le n w h = let two : 0 < 2 = omega arith in pow-le-pow_right two h
-
 -- a negative number's pattern
 pub modulo_negative : (a n : ℕ) → a < 2 ^ n → modulo (negsuc a) (2 ^ n) ≡ 2 ^ n - 1 - a
 modulo_negative a n h = ap (λ (k : ℕ). 2 ^ n - 1 - k) (mod-eq_of_lt h)
@@ -22,14 +19,14 @@ modulo_negative a n h = ap (λ (k : ℕ). 2 ^ n - 1 - k) (mod-eq_of_lt h)
 pub extend_is : (n w : ℕ) (s : Bool) (z : ℤ) → 1 ≤ n → n ≤ w → FitsBits n s z → extend n w s (modulo z (2 ^ n)) ≡ modulo z (2 ^ w)
 extend_is n w false (pos a) h k f =
     let lt = pos_fits n a f in
-    let le = pow_le n w k in
+    let le = pow_mono {i = n} {j = w} k in
     modulo-small a (2 ^ n) lt ∙ sym (modulo-small a (2 ^ w) (omega arith))
 extend_is n w false (negsuc a) h k f = absurd (let e = unsigned_fits n (negsuc a) f in omega arith)
 extend_is n w true (pos a) h k f =
     let e = signed_fits n (pos a) f in
     let half : a < 2 ^ (n - 1) = omega arith in
     let t = halves n h in
-    let le = pow_le n w k in
+    let le = pow_mono {i = n} {j = w} k in
     let p : a % 2 ^ n ≡ a = mod-eq_of_lt (omega arith) in
     let q : a % 2 ^ w ≡ a = mod-eq_of_lt (omega arith) in
     ap (λ (m : ℕ). cond (nat_le (2 ^ (n - 1)) m) (m + (2 ^ w - 2 ^ n)) m) p
@@ -37,7 +34,7 @@ extend_is n w true (pos a) h k f =
 extend_is n w true (negsuc a) h k f =
     let half = negative_fits n a f in
     let t = halves n h in
-    let le = pow_le n w k in
+    let le = pow_mono {i = n} {j = w} k in
     let p = modulo_negative a n (omega arith) in
     let q = modulo_negative a w (omega arith) in
     let high : 2 ^ (n - 1) ≤ 2 ^ n - 1 - a = omega arith in

@@ -1,9 +1,9 @@
 -- Selects, shifts of signed numbers, concatenations and copies.
-use Rattle.std.proofs.Common.{◌≡◌, ℕ, ℤ, pos, negsuc, true, false, List, [], ◌∷◌, ◌+◌, ◌-◌, ◌*◌, ◌/◌, ◌%◌, ◌^◌, ◌<◌, ◌≤◌, cond, nat_le, refl, sym, ◌∙◌, ap, arith, zero, suc, inl, inr, zero-add, pow-add}
+use Rattle.std.proofs.Common.{◌≡◌, ℕ, ℤ, pos, negsuc, true, false, List, [], ◌∷◌, ◌+◌, ◌-◌, ◌*◌, ◌/◌, ◌%◌, ◌^◌, ◌<◌, ◌≤◌, cond, nat_le, refl, sym, ◌∙◌, ap, arith, zero, suc, inl, inr, zero-add, pow-add, pow_mono}
 use Rattle.std.proofs.Math.Nat.{div-eq_of_lt, div-le_self, mul-le-mul_right, div-lt_iff_lt-mul}
 use Rattle.std.proofs.Math.Arith.{digits_div}
 use Rattle.std.proofs.lemmas.Bool.{cond-true, cond-false, le-leb, lt-leb, cases_lt}
-use Rattle.std.proofs.lemmas.Nat.{pow_pos, mul-add-lt}
+use Rattle.std.proofs.lemmas.Nat.{pow_pos}
 use borrow.Author.Differences.{up, down}
 use Rattle.lx_num.specs.declared.Shape.{Shape}
 use Rattle.lx_num.specs.Ints.{modulo, floor_div, field_of, FitsBits}
@@ -11,10 +11,11 @@ use Rattle.lx_num.proofs.Ints.{modulo-small, modulo-below, modulo-modulo, modulo
 use Rattle.lx_num.proofs.Ranges.{negative_fits, signed_fits, fits_pos}
 use Rattle.lx_circuit.specs.Values.{copies, cat_pattern, count_of, replicate_value}
 use Rattle.lx_circuit.specs.Shapes.{bits_sum}
+use Rattle.lx_circuit.proofs.Values.{cat_below, copies_below}
 use Rattle.lx_vmeaning.specs.Meaning.{Valuation, Meaning, own, fill_shift, arithmetic_right, select, concat, concat_bits, width_sum, repeat, repeated}
 use Rattle.lx_tie.specs.Rows.{reversed_onto, StandFor}
 use Rattle.lx_tie.specs.Stands.{Exact, Spreads}
-use Rattle.lx_tie.proofs.Leaves.{pow_le, modulo_negative, own_exact, exact_leaf}
+use Rattle.lx_tie.proofs.Leaves.{modulo_negative, own_exact, exact_leaf}
 use Rattle.lx_tie.proofs.Texts.{amount_is}
 
 -- the upper bits of a pattern are the pattern of the number moved right
@@ -51,7 +52,7 @@ shifted_signed : (n w k : ℕ) (x : ℤ) → 1 ≤ n → n ≤ w → FitsBits n 
 shifted_signed n w k (pos a) h le f =
     let e = signed_fits n (pos a) f in
     let half : a < 2 ^ (n - 1) = omega arith in
-    let wide = pow_le (n - 1) (w - 1) (omega arith) in
+    let wide = pow_mono {i = n - 1} {j = w - 1} (omega arith) in
     let t = halves w (omega arith) in
     let p = modulo-small a (2 ^ w) (omega arith) in
     let d = div-le_self a (2 ^ k) in
@@ -59,7 +60,7 @@ shifted_signed n w k (pos a) h le f =
     ∙ (cond-false (nat_le (2 ^ (w - 1)) a) (a / 2 ^ k + (2 ^ w - 2 ^ (w - k))) (a / 2 ^ k) (lt-leb (2 ^ (w - 1)) a (omega arith)) ∙ sym (modulo-small (a / 2 ^ k) (2 ^ w) (omega arith)))
 shifted_signed n w k (negsuc a) h le f =
     let half = negative_fits n a f in
-    let wide = pow_le (n - 1) (w - 1) (omega arith) in
+    let wide = pow_mono {i = n - 1} {j = w - 1} (omega arith) in
     let t = halves w (omega arith) in
     let p = modulo_negative a w (omega arith) in
     let high : 2 ^ (w - 1) ≤ 2 ^ w - 1 - a = omega arith in
@@ -75,9 +76,9 @@ shifted_signed n w k (negsuc a) h le f =
       | inr small ↦ let e = sym (ap (λ (i : ℕ). i / 2 ^ k) (modulo_negative a w lt)) ∙ modulo-div (negsuc a) w k small in
           let few = quotient_below k w a small lt in
           let g = modulo_negative (a / 2 ^ k) (w - k) few in
-          let le = pow_le (w - k) w (omega arith) in
+          let le = pow_mono {i = w - k} {j = w} (omega arith) in
           omega arith
-      | inl large ↦ let le = pow_le w k (omega arith) in
+      | inl large ↦ let le = pow_mono {i = w} {j = k} (omega arith) in
           let e : (2 ^ w - 1 - a) / 2 ^ k ≡ 0 = div-eq_of_lt (omega arith) in
           let g : a / 2 ^ k ≡ 0 = div-eq_of_lt (omega arith) in
           let one : 2 ^ (w - k) ≡ 1 = ap (λ (i : ℕ). 2 ^ i) (let z : w - k ≡ 0 = omega arith in z) in
@@ -134,17 +135,6 @@ width_sum_is u (s ∷ ss) [] es p = absurd p
 width_sum_is u (s ∷ ss) (z ∷ zs) [] p = absurd p
 width_sum_is u (s ∷ ss) (z ∷ zs) (e ∷ es) p = ap (λ (k : ℕ). k + width_sum es) p.0.width ∙ ap (λ (k : ℕ). s.bits + k) (width_sum_is u ss zs es p.1)
 
--- a concatenation has no more bits than its parts together
-pub cat_below : (ss : List Shape) (zs : List ℤ) → cat_pattern ss zs < 2 ^ bits_sum ss
-cat_below [] zs = pow_pos 0
-cat_below (s ∷ ss) [] = pow_pos (bits_sum (s ∷ ss))
-cat_below (s ∷ ss) (z ∷ zs) =
-    let small = modulo-below z (2 ^ s.bits) (pow_pos s.bits) in
-    let rest = cat_below ss zs in
-    let room = mul-add-lt (cat_pattern ss zs) (2 ^ s.bits) (modulo z (2 ^ s.bits)) (2 ^ bits_sum ss) rest small in
-    let split = pow-add 2 s.bits (bits_sum ss) in
-    omega arith
-
 -- parts with the first in the lowest bits, which is the last of the text
 pub exact_cat : (u : Valuation) (ss : List Shape) (zs : List ℤ) (es : List Meaning) → StandFor u ss zs es → 1 ≤ bits_sum ss → Exact u (bits_sum ss) false (pos (cat_pattern ss zs)) (concat (reversed_onto es []))
 exact_cat u ss zs es p h =
@@ -156,15 +146,6 @@ exact_cat u ss zs es p h =
 copies_are : (k n p : ℕ) → repeated k n p ≡ copies k n p
 copies_are zero n p = refl
 copies_are (suc k) n p = ap (λ (i : ℕ). p + 2 ^ n * i) (copies_are k n p)
-
-pub copies_below : (k n p : ℕ) → p < 2 ^ n → copies k n p < 2 ^ (k * n)
-copies_below zero n p h = pow_pos (0 * n)
-copies_below (suc k) n p h =
-    let rest = copies_below k n p h in
-    let room = mul-add-lt (copies k n p) (2 ^ n) p (2 ^ (k * n)) rest h in
-    let split = pow-add 2 n (k * n) in
-    let size : 2 ^ (suc k * n) ≡ 2 ^ (n + k * n) = ap (λ (i : ℕ). 2 ^ i) (let e : suc k * n ≡ n + k * n = omega arith in e) in
-    omega arith
 
 pub exact_repeat : (u : Valuation) (s : Shape) (k : ℕ) (z : ℤ) (e : Meaning) → Exact u s.bits s.signed z e → 1 ≤ k → Exact u (k * s.bits) false (replicate_value s k z) (repeat k e)
 exact_repeat u s k z e x h =

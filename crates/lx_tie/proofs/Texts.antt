@@ -1,10 +1,11 @@
 -- The text of each operator at operands of one sign.
-use Rattle.std.proofs.Common.{◌≡◌, ℕ, ℤ, pos, negsuc, Bool, true, false, ◌-◌, ◌*◌, ◌/◌, ◌%◌, ◌^◌, ◌≤◌, ◌&&◌, cond, nat_eq, max, refl, sym, ◌∙◌, ap, arith}
+use Rattle.std.proofs.Common.{◌≡◌, ℕ, ℤ, pos, negsuc, Bool, true, false, ◌-◌, ◌*◌, ◌/◌, ◌%◌, ◌^◌, ◌≤◌, ◌&&◌, cond, nat_eq, max, refl, sym, ◌∙◌, ap, arith, pow_mono}
 use Rattle.std.specs.Prelude.{◌+ℤ◌, ◌-ℤ◌, ◌*ℤ◌}
 use Rattle.std.proofs.Common.{neg_ℤ}
 use Rattle.std.proofs.Math.Nat.{div-le_self}
 use Rattle.std.proofs.lemmas.Int.{ints}
 use Rattle.std.proofs.lemmas.Nat.{pow_pos, mul-mod_second}
+use Rattle.std.proofs.Math.Bool.{and_self}
 use Rattle.lx_num.specs.Ints.{modulo, floor_div, FitsBits, read_bits}
 use Rattle.lx_num.specs.Bits.{int_not, int_and, int_or, int_xor}
 use Rattle.lx_num.proofs.Ints.{modulo-small, modulo-add, modulo-sub, modulo-neg, modulo-mul, modulo-int_not}
@@ -13,11 +14,7 @@ use Rattle.lx_num.proofs.Ranges.{pos_fits, unsigned_fits, fits_pos}
 use Rattle.lx_vmeaning.specs.Meaning.{Valuation, Meaning, own, both, add_bits, sub_bits, mul_bits, and_bits, or_bits, xor_bits, negated, inverted, left_shift, right_shift, compare, truth, choose}
 use Rattle.lx_circuit.specs.Values.{count_of, is_zero, mux_value, flag}
 use Rattle.lx_tie.specs.Stands.{Exact, Drives, Spreads}
-use Rattle.lx_tie.proofs.Leaves.{pow_le, own_exact, read_exact, zero_pattern, exact_leaf}
-
-and_self : (s : Bool) → (s && s) ≡ s
-and_self true = refl
-and_self false = refl
+use Rattle.lx_tie.proofs.Leaves.{own_exact, read_exact, zero_pattern, exact_leaf}
 
 -- both operands are signed where they have that sign
 pub both_signed : (a b s : Bool) → a ≡ s → b ≡ s → (a && b) ≡ s
@@ -97,7 +94,7 @@ spreads_left_shift u n m k s x y a b p q le = record {
 shifted_natural : (n w k : ℕ) (x : ℤ) → n ≤ w → FitsBits n false x → modulo x (2 ^ w) / 2 ^ k ≡ modulo (floor_div x (2 ^ k)) (2 ^ w)
 shifted_natural n w k (pos a) le f =
     let lt = pos_fits n a f in
-    let wide = pow_le n w le in
+    let wide = pow_mono {i = n} {j = w} le in
     let e = modulo-small a (2 ^ w) (omega arith) in
     ap (λ (i : ℕ). i / 2 ^ k) e ∙ sym (modulo-small (a / 2 ^ k) (2 ^ w) (let d = div-le_self a (2 ^ k) in omega arith))
 shifted_natural n w k (negsuc a) le f = absurd (let e = unsigned_fits n (negsuc a) f in omega arith)

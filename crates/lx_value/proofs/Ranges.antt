@@ -9,6 +9,7 @@ use Rattle.std.proofs.lemmas.Bool.{cases_lt}
 use Rattle.std.proofs.lemmas.Bool.Decides.{nat_tests}
 use Rattle.std.proofs.Math.Nat.{pow-suc, pow-le-pow_left, pow-le-pow_right, mul-le-mul_left, div-eq_of_lt}
 use Rattle.lx_num.specs.Ints.{floor_div}
+use Rattle.lx_num.proofs.Machine.{shr_is}
 use Rattle.lx_value.specs.declared.numbers.NumFault.{NumFault}
 use Rattle.lx_value.specs.declared.numbers.NumFault.TheVariants.{NumberRange}
 use Rattle.lx_value.specs.Numbers.{ranged, shifted_left, shifted_right, floor_remainder, divided}
@@ -104,10 +105,6 @@ short_floor a n k h e =
       | inl p ↦ ap (λ (j : ℕ). floor_div a (2 ^ j)) (omega arith)
       | inr p ↦ ap (λ (j : ℕ). floor_div a (2 ^ j)) (let d : k ≡ 127 = omega arith in d) ∙ far_floor a n h p
     ]
-
-shr_is : (a : ℤ) (m : ℕ) → shr_z a m ≡ floor_div a m
-shr_is (pos a) m = refl
-shr_is (negsuc a) m = refl
 
 pub shifted_is : (a : ℤ) (n k : ℕ) → FitsSigned w128 a → unsigned_abs a < 2 ^ 127 → k ≡ min n 127 → raw (shr_z (raw a) (2 ^ k)) ≡ shifted_right a n
 shifted_is a n k f h e =
