@@ -9,17 +9,19 @@ use Rattle.lx_circuit.specs.Terms.{Binary, Term}
 use Rattle.lx_fhdl.specs.Below.{ExprId}
 use Rattle.lx_fhdl.specs.declared.stmts.Arm.{Arm}
 use Rattle.lx_tables.specs.declared.operators.Op.TheVariants as op
-use Rattle.lx_lowering.specs.Flat.{and_none, is_among_keys, is_key, key_of, no_key}
+use Rattle.lx_lowering.specs.Flat.{and_none, is_among_keys, is_key, is_value, key_of, no_key}
 use Rattle.lx_fhdl.specs.Designs.{shapes, term}
 use Rattle.lx_fhdl.specs.declared.design.Design.{Design}
+use Rattle.lx_lower.specs.Lines.{has_key}
 use Rattle.lx_lower.specs.Keys.{AreBits, AreFresh, fresh_at, is_fresh, key_at, keys_onto, seen_keys, none_of, NonePut, none_after}
 use Rattle.lx_lower.proofs.Sound.{grows_same, grows_then, same_shapes, term_kept}
 use Rattle.lx_lower.specs.Plain.{IsBit, TermPut}
 use Rattle.lx_num.specs.declared.Shape.{Shape}
 use Rattle.lx_num.specs.Ints.{unsigned, wrapped}
 use Rattle.lx_lowering.specs.Terms.{never}
+use Rattle.lx_lowering.proofs.Branches.{int_eq-true}
 use Rattle.std.specs.Prelude.{pos, ◌&&◌, not}
-use Rattle.std.proofs.lemmas.Bool.{cases_lt}
+use Rattle.std.proofs.lemmas.Bool.{cases_lt, true≢false}
 use Rattle.std.proofs.lemmas.List.{get_or_append_left, get_or_default, get_or_push, length_push}
 
 -- ---- keys that were seen
@@ -83,6 +85,55 @@ none_more x y z a b arms k on m fresh l e there p is q =
 
 pub none_start : (x : Design) (s : Shapes) (on : Term) → NonePut x x None (none_after s on [] None (take 0 []))
 none_start x s on = record { grows = grows_same x; bit = tt; tree = refl }
+
+-- ---- whether some key is a value
+
+abbrev pub is_some : Option Term → Bool
+is_some None = false
+is_some (Some t) = true
+
+stays_some : (s : Shapes) (on : Term) (seen : List ℤ) (c : Term) (arms : List Arm) → is_some (none_after s on seen (Some c) arms) ≡ true
+stays_some s on seen c [] = refl
+stays_some s on seen c (a ∷ more) = by_test (is_value s on a.key && not (is_among_keys a.key seen)) (λ (d : Term). stays_some s on (a.key ∷ seen) d more)
+  where
+    other : Term
+    other = Binary op.Ne on (key_of s on a.key)
+
+    by_test : (b : Bool) → ((d : Term) → is_some (none_after s on (a.key ∷ seen) (Some d) more) ≡ true) → is_some (none_after s on (a.key ∷ seen) (cond b (and_none (Some c) other) (Some c)) more) ≡ true
+    by_test true h = h (Binary op.And c other)
+    by_test false h = h c
+
+-- no key that was seen is a value
+abbrev NoValue : Shapes → Term → List ℤ → Type 0
+NoValue s on seen = (key : ℤ) → is_value s on key ≡ true → is_among_keys key seen ≡ false
+
+no_value_more : (s : Shapes) (on : Term) (seen : List ℤ) (k : ℤ) → NoValue s on seen → is_value s on k ≡ false → NoValue s on (k ∷ seen)
+no_value_more s on seen k h e key f = by_same (int_eq k key) refl
+  where
+    by_same : (b : Bool) → int_eq k key ≡ b → (b || is_among_keys key seen) ≡ false
+    by_same true q =
+        let same : k ≡ key = int_eq-true k key q in
+        absurd (true≢false (sym f ∙ ap (is_value s on) (sym same) ∙ e))
+    by_same false q = h key f
+
+key_found : (s : Shapes) (on : Term) (seen : List ℤ) (arms : List Arm) → NoValue s on seen → is_some (none_after s on seen None arms) ≡ has_key (shape_of s on) arms
+key_found s on seen [] h = refl
+key_found s on seen (a ∷ more) h = by_value (is_value s on a.key) refl (key_found s on (a.key ∷ seen) more)
+  where
+    other : Term
+    other = Binary op.Ne on (key_of s on a.key)
+
+    by_value : (b : Bool) → is_value s on a.key ≡ b → (NoValue s on (a.key ∷ seen) → is_some (none_after s on (a.key ∷ seen) None more) ≡ has_key (shape_of s on) more)
+        → is_some (none_after s on (a.key ∷ seen) (cond (b && not (is_among_keys a.key seen)) (Some other) None) more) ≡ (b || has_key (shape_of s on) more)
+    by_value true e later = ap (λ (b : Bool). is_some (none_after s on (a.key ∷ seen) (cond (not b) (Some other) None) more)) (h a.key e) ∙ stays_some s on (a.key ∷ seen) other more
+    by_value false e later = later (no_value_more s on seen a.key h e)
+
+-- a condition stands for no key exactly where some key is a value
+pub some_key : (s : Shapes) (on : Term) (arms : List Arm) (c : Term) → Some c ≡ none_after s on [] None arms → has_key (shape_of s on) arms ≡ true
+some_key s on arms c e = sym (key_found s on [] arms (λ key f. refl)) ∙ ap is_some (sym e)
+
+pub no_key_there : (s : Shapes) (on : Term) (arms : List Arm) → None ≡ none_after s on [] None arms → has_key (shape_of s on) arms ≡ false
+no_key_there s on arms e = sym (key_found s on [] arms (λ key f. refl)) ∙ ap is_some (sym e)
 
 -- ---- fresh keys
 

@@ -10,6 +10,7 @@ use Rattle.lx_fhdl.specs.declared.design.Design.{Design}
 use Rattle.lx_fhdl.proofs.Designs.{signal_small}
 use Rattle.lx_lowering.proofs.Law.{flat_laws}
 use Rattle.lx_lowering.proofs.SplitFacts.{is_flat_block, split_for}
+use Rattle.lx_lower.specs.Lines.{Assigned}
 use Rattle.lx_lower.specs.Lists.{AreForSignals, AreThere, ListsPut, split_of}
 use Rattle.lx_lower.specs.Puts.{flat_of}
 use Rattle.lx_lower.proofs.FromKeeps.{design_block, sync_below}
@@ -27,5 +28,5 @@ comb_there d keep = keep.comb.there
 pub sync_there : (d : Design) (k : ℕ) (ids : List StmtId) → Keeps d → ids ≡ stmts_of k d.sync → AreThere d ids
 sync_there d k ids keep e = subst (AreThere d) (sym e) (search (sync_below d k d.sync keep.sync))
 
-pub for_signals : (x y : Design) (lists : List (List StmtId)) (f : ℕ → Block) (ls : ℕ → List ℕ) → ListsPut x y (length y.signals) lists f ls → AreForSignals y lists
+pub for_signals : (x y : Design) (lists : List (List StmtId)) (f : ℕ → Block) (ls : ℕ → List Assigned) → ListsPut x y (length y.signals) lists f ls → AreForSignals y lists
 for_signals x y lists f ls h = record { long = h.long; there = h.there; alone = h.alone }

@@ -2,6 +2,7 @@
 use Rattle.std.proofs.Common.{◌≡◌, ℕ, ℤ, Bool, true, nat_eq, ne_eqb, ◌+◌, ◌-◌, ◌<◌, ◌≤◌, List, [], ◌∷◌, ◌++◌, append_assoc, Option, Some, None, length, take, drop, get_or, refl, sym, ap, subst, ◌∙◌, arith, cond, length-drop}
 use Rattle.std.specs.Prelude.{IsTrue}
 use Rattle.std.proofs.lemmas.Bool.{and_parts, true≢false}
+use Rattle.std.proofs.lemmas.List.{append-nil}
 use Rattle.std.proofs.Math.Seq.{take-length}
 use Rattle.lx_num.specs.Ints.{unsigned}
 use Rattle.lx_tables.specs.declared.operators.Op.TheVariants as op
@@ -22,12 +23,14 @@ use Rattle.lx_lowering.specs.Terms.{lower_term, never}
 use Rattle.lx_fhdl.specs.Designs.{shapes, term}
 use Rattle.lx_fhdl.specs.declared.design.Design.{Design}
 use Rattle.lx_lower.specs.Keys.{AreBits, NonePut, arms_block, none_after, none_of, seen_keys}
-use Rattle.lx_lower.specs.Lines.{arm_lines, both_lines, branch_lines, lines_at, lines_in}
+use Rattle.lx_lower.specs.Lines.{Assigned, arm_lines, both_lines, branch_lines, has_branch, lines, lines_at, lines_in, under, under_each}
 use Rattle.lx_lower.specs.Owned.{node_lines_of, AreOwned, Put, PutSome, PutUnder}
 use Rattle.lx_lower.specs.Plain.{IsBit, TermPut}
 use Rattle.lx_lower.specs.declared.owned.Own.{Own}
 use Rattle.lx_lower.proofs.Arms.{keys_next}
+use Rattle.lx_lower.specs.Puts.{branches_inside, branches_of, flat_of, lines_for, lines_inside, lowered_at}
 use Rattle.lx_lower.proofs.Items.{next_item, nothing_left}
+use Rattle.lx_lower.proofs.Lining.{lines_under}
 use Rattle.lx_lower.proofs.Puts.{append_all, holds_kept, holds_new, put_is, put_lines, put_then, put_after, some_is, some_lines, some_more, some_grown, some_all, under_put}
 use Rattle.lx_lower.proofs.Sound.{grows_then, same_shapes, term_kept}
 
@@ -70,12 +73,12 @@ lone_branch d bound (x ∷ (y ∷ more)) b h l e = absurd (omega arith)
 
 -- ---- blocks
 
-pub block_more : (s : Shapes) (h : ℕ → tree.Stmt) (f : ℕ → ℕ → List ℕ) (ids : List StmtId) (k : ℕ) (z : StmtId) {u x y : Design} {a b c : List Own} {whole : Block} {ls : ℕ → List ℕ} → k < length ids
+pub block_more : (s : Shapes) (h : ℕ → tree.Stmt) (f : ℕ → ℕ → List Assigned) (ids : List StmtId) (k : ℕ) (z : StmtId) {u x y : Design} {a b c : List Own} {whole : Block} {ls : ℕ → List Assigned} → k < length ids
     → PutSome u x a b whole (flat_block s (block_at h (drop k ids))) ls (λ i. lines_in (f i) (drop k ids)) → Put x y b c (flat s (h (get_or ids k z).place)) (λ i. f i (get_or ids k z).place)
     → PutSome u y a c whole (flat_block s (block_at h (drop (k + 1) ids))) ls (λ i. lines_in (f i) (drop (k + 1) ids))
 block_more s h f ids k z l p q = some_more (some_lines (λ i. ap (lines_in (f i)) (next_item ids k z l)) (some_is (ap (λ (is : List StmtId). flat_block s (block_at h is)) (next_item ids k z l)) p)) q
 
-pub block_done : (s : Shapes) (h : ℕ → tree.Stmt) (f : ℕ → ℕ → List ℕ) (ids : List StmtId) (k : ℕ) {u x : Design} {a b : List Own} {whole : Block} {ls : ℕ → List ℕ} → length ids ≤ k
+pub block_done : (s : Shapes) (h : ℕ → tree.Stmt) (f : ℕ → ℕ → List Assigned) (ids : List StmtId) (k : ℕ) {u x : Design} {a b : List Own} {whole : Block} {ls : ℕ → List Assigned} → length ids ≤ k
     → PutSome u x a b whole (flat_block s (block_at h (drop k ids))) ls (λ i. lines_in (f i) (drop k ids)) → Put u x a b whole ls
 block_done s h f ids k l p = some_all (λ i. ap (lines_in (f i)) (nothing_left ids k l)) (some_is (ap (λ (is : List StmtId). flat_block s (block_at h is)) (nothing_left ids k l)) p)
 
@@ -98,7 +101,7 @@ none_bit {x} {y} {k} {id} c b p = record {
 }
 
 -- one branch more
-pub chain_more : (s : Shapes) (t : ℕ → Term) (h : ℕ → tree.Stmt) (f : ℕ → ℕ → List ℕ) (bs : List Branch) (k : ℕ) (b : Branch) (r : Block) (rl : ℕ → List ℕ) (none cond here next : ℕ) {u x y v w : Design} {a c e : List Own} {whole : Block} {ls : ℕ → List ℕ} → k < length bs → b ≡ get_or bs k b
+pub chain_more : (s : Shapes) (t : ℕ → Term) (h : ℕ → tree.Stmt) (f : ℕ → ℕ → List Assigned) (bs : List Branch) (k : ℕ) (b : Branch) (r : Block) (rl : ℕ → List Assigned) (none cond here next : ℕ) {u x y v w : Design} {a c e : List Own} {whole : Block} {ls : ℕ → List Assigned} → k < length bs → b ≡ get_or bs k b
     → shapes x ≡ s → shapes v ≡ s → term x cond ≡ lower_term s (t b.cond.place) → cond < length x.exprs → none < length x.exprs
     → PutSome u x a c whole (flat_chain s (term x none) (branches_at t h (drop k bs)) r) ls (both_lines (λ i. branch_lines (f i) (drop k bs)) rl)
     → TermPut x y here (Binary op.And (term x none) (holds (shapes x) (term x cond)))
@@ -122,7 +125,7 @@ chain_more s t h f bs k b r rl none cond here next {x = x} {y = y} {v = v} {w = 
     sym (j.tree ∙ ap (λ (z : Shapes). Binary op.And (term v none) (fails z (term v cond))) sv ∙ ap (λ (z : Term). Binary op.And z (fails s (term v cond))) (term_kept none step none_there) ∙ ap (λ (z : Term). Binary op.And n (fails s z)) after) in
     some_grown (some_is (ap (λ (z : Term). flat_chain s z (branches_at t h (drop (k + 1) bs)) r) none_is) (some_more at (put_after g p.owned (put_is body q)))) j.grows
 
-pub chain_done : (s : Shapes) (t : ℕ → Term) (h : ℕ → tree.Stmt) (f : ℕ → ℕ → List ℕ) (bs : List Branch) (k : ℕ) (n : Term) (r : Block) (rl : ℕ → List ℕ) {u x : Design} {a b : List Own} {whole : Block} {ls : ℕ → List ℕ} → length bs ≤ k
+pub chain_done : (s : Shapes) (t : ℕ → Term) (h : ℕ → tree.Stmt) (f : ℕ → ℕ → List Assigned) (bs : List Branch) (k : ℕ) (n : Term) (r : Block) (rl : ℕ → List Assigned) {u x : Design} {a b : List Own} {whole : Block} {ls : ℕ → List Assigned} → length bs ≤ k
     → PutSome u x a b whole (flat_chain s n (branches_at t h (drop k bs)) r) ls (both_lines (λ i. branch_lines (f i) (drop k bs)) rl) → PutSome u x a b whole (some_when n r) ls rl
 chain_done s t h f bs k n r rl l p =
     some_lines (λ i. ap (λ (xs : List Branch). branch_lines (f i) xs ++ rl i) (nothing_left bs k l)) (some_is (ap (λ (xs : List Branch). flat_chain s n (branches_at t h xs) r) (nothing_left bs k l)) p)
@@ -137,7 +140,7 @@ several_are s t h (x ∷ (y ∷ more)) z r l = refl
 -- ---- arms
 
 -- one arm more
-pub arms_more : (s : Shapes) (h : ℕ → tree.Stmt) (f : ℕ → ℕ → List ℕ) (arms : List Arm) (k : ℕ) (z : Arm) (o : Term) (on here : ℕ) (fresh : Bool) {u x y v : Design} {a b c : List Own} {whole : Block} {ls : ℕ → List ℕ} → k < length arms → z ≡ get_or arms k z
+pub arms_more : (s : Shapes) (h : ℕ → tree.Stmt) (f : ℕ → ℕ → List Assigned) (arms : List Arm) (k : ℕ) (z : Arm) (o : Term) (on here : ℕ) (fresh : Bool) {u x y v : Design} {a b c : List Own} {whole : Block} {ls : ℕ → List Assigned} → k < length arms → z ≡ get_or arms k z
     → shapes x ≡ s → term x on ≡ o → cond fresh (Binary op.Eq o (key_of s o z.key)) never ≡ is_key s o (seen_keys (take k arms)) z.key
     → PutSome u x a b whole (arms_block s h o (seen_keys (take k arms)) (drop k arms)) ls (λ j. arm_lines (f j) (drop k arms))
     → TermPut x y here (cond fresh (Binary op.Eq (term x on) (key_of (shapes x) (term x on) z.key)) never)
@@ -155,7 +158,7 @@ arms_more s h f arms k z o on here fresh {x = x} {y = y} l same sx i is p e q =
     ∙ ap (λ (w : Arm). some_when (is_key s o seen w.key) (flat_block s (block_at h w.body))) same in
     some_is (ap (λ (keys : List ℤ). arms_block s h o keys (drop (k + 1) arms)) (sym (keys_next arms k z l))) (some_more at (put_after e.grows p.owned (put_is body q)))
 
-pub arms_done : (s : Shapes) (h : ℕ → tree.Stmt) (f : ℕ → ℕ → List ℕ) (arms : List Arm) (k : ℕ) (o : Term) (seen : List ℤ) {u x : Design} {a b : List Own} {whole : Block} {ls : ℕ → List ℕ} → length arms ≤ k
+pub arms_done : (s : Shapes) (h : ℕ → tree.Stmt) (f : ℕ → ℕ → List Assigned) (arms : List Arm) (k : ℕ) (o : Term) (seen : List ℤ) {u x : Design} {a b : List Own} {whole : Block} {ls : ℕ → List Assigned} → length arms ≤ k
     → PutSome u x a b whole (arms_block s h o seen (drop k arms)) ls (λ j. arm_lines (f j) (drop k arms)) → Put u x a b whole ls
 arms_done s h f arms k o seen l p = some_all (λ j. ap (arm_lines (f j)) (nothing_left arms k l)) (some_is (ap (arms_block s h o seen) (nothing_left arms k l)) p)
 
@@ -177,6 +180,51 @@ after_first {X} xs = let n : length xs - 1 ≡ length (drop 1 xs) = omega (arith
 
 -- ---- several branches, and a lone one
 
+-- under a condition from a line
+pub put_under : (d : Design) (line : ℕ) (ids : List StmtId) {x y : Design} {a b : List Own} {s : Block} → Put x y a b s (under_each line (lines_for d ids)) → Put x y a b s (lines_inside d true line ids)
+put_under d line ids p = put_lines (λ k. sym (lines_under line (lines_at d k) ids)) p
+
+pub put_both_under : (d : Design) (line : ℕ) (ids is : List StmtId) {x y : Design} {a b : List Own} {s : Block} → Put x y a b s (both_lines (under_each line (lines_for d ids)) (under_each line (lines_for d is)))
+    → Put x y a b s (both_lines (lines_inside d true line ids) (lines_inside d true line is))
+put_both_under d line ids is p =
+    put_lines (λ k. ap (λ (xs : List Assigned). xs ++ under line (lines d k is)) (sym (lines_under line (lines_at d k) ids)) ∙ ap (λ (xs : List Assigned). lines_inside d true line ids k ++ xs) (sym (lines_under line (lines_at d k) is))) p
+
+-- under one or none
+pub put_where : (d : Design) (line : ℕ) (ids : List StmtId) {x y : Design} {a b : List Own} {s : Block} {r t : Bool} → r ≡ t → Put x y a b s (lines_inside d r line ids) → Put x y a b s (lines_inside d t line ids)
+put_where d line ids {x} {y} {a} {b} {s} e p = subst (λ (c : Bool). Put x y a b s (lines_inside d c line ids)) e p
+
+-- some branches are a condition
+some_branch : (bs : List Branch) → 1 ≤ length bs → true ≡ has_branch bs
+some_branch [] l = absurd (omega arith)
+some_branch (b ∷ bs) l = refl
+
+pub put_branches : (d : Design) (line : ℕ) (bs : List Branch) (rest : List StmtId) {x y : Design} {a b : List Own} {s : Block} → 1 ≤ length bs → Put x y a b s (both_lines (branches_inside d true line bs) (lines_inside d true line rest))
+    → Put x y a b s (both_lines (branches_inside d (has_branch bs) line bs) (lines_inside d (has_branch bs) line rest))
+put_branches d line bs rest {x} {y} {a} {b} {s} l p = subst (λ (c : Bool). Put x y a b s (both_lines (branches_inside d c line bs) (lines_inside d c line rest))) (some_branch bs l) p
+
+-- no branch
+pub put_no_branch : (d : Design) (line : ℕ) (bs : List Branch) (rest : List StmtId) {x y : Design} {a b : List Own} → bs ≡ [] → Put x y a b (flat_of d rest) (lines_for d rest)
+    → Put x y a b (flat_if (shapes d) (branches_of d bs) (flat_of d rest)) (both_lines (branches_inside d (has_branch bs) line bs) (lines_inside d (has_branch bs) line rest))
+put_no_branch d line bs rest {x} {y} {a} {b} e p =
+    subst (λ (cs : List Branch). Put x y a b (flat_if (shapes d) (branches_of d cs) (flat_of d rest)) (both_lines (branches_inside d (has_branch cs) line cs) (lines_inside d (has_branch cs) line rest))) (sym e) (put_lines (λ k. refl) p)
+
+-- one branch
+pub put_one_branch : (d : Design) (line : ℕ) (bs : List Branch) (c : Branch) (rest : List StmtId) {x y : Design} {a b : List Own} → bs ≡ c ∷ []
+    → Put x y a b (first_branch (lowered_at d c.cond.place) (flat_of d c.body) tree.NoBranch Done (flat_of d rest)) (both_lines (lines_inside d true line c.body) (lines_inside d true line rest))
+    → Put x y a b (flat_if (shapes d) (branches_of d bs) (flat_of d rest)) (both_lines (branches_inside d (has_branch bs) line bs) (lines_inside d (has_branch bs) line rest))
+put_one_branch d line bs c rest {x} {y} {a} {b} e p =
+    let r = flat_of d rest in
+    let t = lowered_at d c.cond.place in
+    let further = flat_chain (shapes d) (fails (shapes d) t) tree.NoBranch r in
+    let body = λ (k : ℕ). ap (λ (xs : List Assigned). xs ++ lines_inside d true line rest k) (sym (append-nil (lines_inside d true line c.body k))) in
+    subst (λ (cs : List Branch). Put x y a b (flat_if (shapes d) (branches_of d cs) r) (both_lines (branches_inside d (has_branch cs) line cs) (lines_inside d (has_branch cs) line rest))) (sym e)
+    (put_lines body (put_is (lone_chain t (flat_of d c.body) further r) p))
+
+pub only_item : {X : Type 0} (xs : List X) (x : X) → length xs ≡ 1 → x ≡ get_or xs 0 x → xs ≡ x ∷ []
+only_item [] x l e = absurd (omega arith)
+only_item (y ∷ []) x l e = ap (λ z. z ∷ []) (sym e)
+only_item (y ∷ z ∷ more) x l e = absurd (omega arith)
+
 pub fails_bit : {x y : Design} {id : ℕ} (c : Term) → TermPut x y id (fails (shapes x) c) → IsBit y id
 fails_bit {x} {y} {id} c p = record { there = p.within; bit = ap (λ (s : Shapes). shape_of s (term y id)) (same_shapes x y p.grows.signals) ∙ ap (shape_of (shapes x)) p.tree }
 
@@ -191,11 +239,11 @@ and_put x y z left right id t l p q = record {
 }
 
 -- the lines of the first branch, and of the others
-first_lines : (f : ℕ → List ℕ) (bs : List Branch) (b : Branch) (rl : List ℕ) → 1 ≤ length bs → b ≡ get_or bs 0 b → lines_in f b.body ++ (branch_lines f (drop 1 bs) ++ rl) ≡ branch_lines f bs ++ rl
+first_lines : (f : ℕ → List Assigned) (bs : List Branch) (b : Branch) (rl : List Assigned) → 1 ≤ length bs → b ≡ get_or bs 0 b → lines_in f b.body ++ (branch_lines f (drop 1 bs) ++ rl) ≡ branch_lines f bs ++ rl
 first_lines f [] b rl l e = absurd (omega arith)
 first_lines f (x ∷ xs) b rl l e = ap (λ (z : Branch). lines_in f z.body ++ (branch_lines f xs ++ rl)) e ∙ sym (append_assoc (lines_in f x.body) (branch_lines f xs) rl)
 
-pub several_put : (s : Shapes) (t : ℕ → Term) (h : ℕ → tree.Stmt) (f : ℕ → ℕ → List ℕ) (bs : List Branch) (b : Branch) (r : Block) (rl : ℕ → List ℕ) (cond none : ℕ) {x y v w : Design} {a c e : List Own} → 2 ≤ length bs → b ≡ get_or bs 0 b → cond < length x.exprs
+pub several_put : (s : Shapes) (t : ℕ → Term) (h : ℕ → tree.Stmt) (f : ℕ → ℕ → List Assigned) (bs : List Branch) (b : Branch) (r : Block) (rl : ℕ → List Assigned) (cond none : ℕ) {x y v w : Design} {a c e : List Own} → 2 ≤ length bs → b ≡ get_or bs 0 b → cond < length x.exprs
     → shapes y ≡ s → term x cond ≡ lower_term s (t b.cond.place) → Put x y a c (some_when (term x cond) (flat_block s (block_at h b.body))) (λ i. lines_in (f i) b.body)
     → TermPut y v none (fails (shapes y) (term y cond)) → Put v w c e (flat_chain s (term v none) (branches_at t h (drop 1 bs)) r) (both_lines (λ i. branch_lines (f i) (drop 1 bs)) rl)
     → Put x w a e (flat_if s (branches_at t h bs) r) (both_lines (λ i. branch_lines (f i) bs) rl)
@@ -206,8 +254,8 @@ several_put s t h f bs b r rl cond none {x = x} {y = y} l same there sy tree p i
     put_lines (λ j. first_lines (f j) bs b (rl j) (omega arith) same) (put_is (several_are s t h bs b r l) (put_then (put_is first p) (put_after i.grows p.owned (put_is further q))))
 
 -- a branch that keeps its rest beside it
-pub lone_put : (cond : ℕ) (p q : Block) {x y z w : Design} {a b then_ else_ : List Own} {c : Term} {ls ms : ℕ → List ℕ} → AreOwned x a → term z cond ≡ c → Put x y [] then_ p ls → Put y z [] else_ q ms
-    → PutUnder z w a b (term z cond) then_ else_ → Put x w a b (first_branch c p tree.NoBranch Done q) (both_lines ls ms)
+pub lone_put : (cond : ℕ) (p q : Block) {x y z w : Design} {a b then_ else_ : List Own} {c : Term} {line : ℕ} {ls ms : ℕ → List Assigned} → AreOwned x a → term z cond ≡ c → Put x y [] then_ p ls → Put y z [] else_ q ms
+    → PutUnder z w a b (term z cond) then_ else_ line → Put x w a b (first_branch c p tree.NoBranch Done q) (both_lines (under_each line ls) (under_each line ms))
 lone_put cond p q there e f g h = under_put cond p q (grows_then f.grows g.grows) there (holds_kept g.grows (holds_new f)) (holds_new g) e h
 
 -- ---- the rest of arms

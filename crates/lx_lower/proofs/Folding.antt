@@ -19,7 +19,7 @@ use Rattle.lx_fhdl.specs.Drafts.{DraftKeeps}
 use Rattle.lx_fhdl.specs.Stmts.{node_stmt}
 use Rattle.lx_fhdl.specs.declared.stmts.Stmt.{Stmt}
 use Rattle.lx_fhdl.proofs.StmtTrees.{stmt_at-is}
-use Rattle.lx_lower.specs.Lines.{lines_at}
+use Rattle.lx_lower.specs.Lines.{Assigned, alone, first_line, folded_lines, lines_at, lines_in}
 use Rattle.lx_lower.specs.Owned.{node_lines_of}
 use Rattle.lx_lower.proofs.Lining.{lines_at-is}
 use Rattle.lx_fhdl.specs.Designs.{circuit_of, made_of, shapes}
@@ -110,3 +110,16 @@ stmt_lines d k x keep e s = lines_at-is d s k x keep.arenas.stmts_lower e
 pub block_some : (f : ℕ → tree.Stmt) (ids : List StmtId) → 0 < length ids → is_done (block_at f ids) ≡ false
 block_some f [] l = absurd (omega arith)
 block_some f (i ∷ is) l = refl
+
+-- ---- the lines
+
+pub none_folded : (f : ℕ → List Assigned) (ids : List StmtId) (none : Bool) → ids ≡ [] → lines_in f ids ≡ folded_lines none (lines_in f ids)
+none_folded f ids none e = ap (lines_in f) e ∙ by_test none ∙ sym (ap (λ (is : List StmtId). folded_lines none (lines_in f is)) e)
+  where
+    by_test : (b : Bool) → [] ≡ folded_lines b []
+    by_test true = refl
+    by_test false = refl
+
+pub line_folded : (ls : List Assigned) (line : ℕ) (none : Bool) → true ≡ none → first_line ls ≡ Some line → alone line ∷ [] ≡ folded_lines none ls
+line_folded [] line none e h = absurd (cc)
+line_folded (l ∷ ls) line none e h = let same : l.line ≡ line = cc in ap (λ (k : ℕ). alone k ∷ []) (sym same) ∙ ap (λ (b : Bool). folded_lines b (l ∷ ls)) e

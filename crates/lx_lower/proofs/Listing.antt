@@ -1,6 +1,6 @@
 -- Lists of statements, one for each signal.
 use Rattle.std.proofs.Common.{◌≡◌, ℕ, zero, suc, ◌+◌, ◌<◌, ◌≤◌, Bool, true, false, cond, nat_lt, nat_eq, List, [], ◌∷◌, ◌++◌, length, take, get_or, set, map, refl, sym, ap, ◌∙◌, subst, arith, inl, inr, eq-eqb, eqb-true}
-use Rattle.std.specs.Prelude.{ℤ, Option, Some, None, replicate, slice_index_or}
+use Rattle.std.specs.Prelude.{ℤ, Option, Some, None, slice_index_or}
 use Rattle.std.specs.List.{flat_map}
 use Rattle.std.proofs.Math.ListN.{length-set}
 use Rattle.std.proofs.lemmas.Bool.{cases_lt, and_parts, and_from, eqb-false, lt-ltb, ltb-true}
@@ -23,13 +23,13 @@ use Rattle.lx_fhdl.specs.declared.design.SyncPart.{SyncPart}
 use Rattle.lx_fhdl.specs.declared.exprs.SigId.{SigId}
 use Rattle.lx_fhdl.specs.declared.stmts.Stmt.TheVariants as stmt
 use Rattle.lx_fhdl.specs.declared.stmts.Target.TheVariants as target
-use Rattle.lx_lowering.specs.Constants.{folded}
+use Rattle.lx_lowering.specs.Constants.{block_reads_none, folded}
 use Rattle.lx_lowering.specs.Flat.{append, one}
 use Rattle.lx_lowering.specs.Lowering.{lists_from}
 use Rattle.lx_lowering.specs.Split.{split_block}
-use Rattle.lx_lower.specs.Fixed.{IsFirst, chosen, chosen_lines, constant_in, folded_in, reset_of}
-use Rattle.lx_lower.specs.Lines.{lines, lines_at, lines_in, target_lines}
-use Rattle.lx_lower.specs.Lists.{AreBySignal, AreFolds, AreForSignals, AreThere, CombPut, IsFor, KeepsLines, ListPut, ListsPut, OnePut, PartsPut, all_lists, fold_at, fold_lines, folded_lists, folded_of, list_at, part_at, split_of, sync_lines, sync_lists}
+use Rattle.lx_lower.specs.Fixed.{chosen, chosen_lines, constant_in, folded_in, reset_of}
+use Rattle.lx_lower.specs.Lines.{Assigned, alone, folded_lines, lines, lines_at, lines_in, target_lines}
+use Rattle.lx_lower.specs.Lists.{AreBySignal, AreFolds, AreForSignals, AreThere, IsFor, ListPut, ListsPut, OnePut, PartsPut, all_lists, fold_at, fold_lines, folded_lines_of, folded_lists, folded_of, list_at, part_at, split_of, sync_lines, sync_lists}
 use Rattle.lx_lower.specs.Owned.{Put, ids_of}
 use Rattle.lx_lower.specs.Plain.{Grows, StmtAdded, TargetAdded, TermPut}
 use Rattle.lx_lower.specs.Puts.{lines_for}
@@ -89,7 +89,7 @@ pub all_by_signal : (n : ℕ) (os : List Own) (k : ℕ) (lists : List (List Stmt
 all_by_signal n os k lists l h = subst (λ (ws : List Own). AreBySignal n ws lists) (take_all k os l) h
 
 -- the lists of what flat statements assign to each signal
-pub split_put : (x y : Design) (os : List Own) (b : Block) (ls : ℕ → List ℕ) (lists : List (List StmtId)) → ((k : ℕ) → are_for k (split_block k b) ≡ true) → Put x y [] os b ls → AreBySignal (length y.signals) os lists
+pub split_put : (x y : Design) (os : List Own) (b : Block) (ls : ℕ → List Assigned) (lists : List (List StmtId)) → ((k : ℕ) → are_for k (split_block k b) ≡ true) → Put x y [] os b ls → AreBySignal (length y.signals) os lists
     → ListsPut x y (length y.signals) lists (λ k. split_block k b) ls
 split_put x y os b ls lists alone p h = record {
   grows = p.grows;
@@ -138,25 +138,25 @@ joined_there n [] h = refl
 joined_there n (list ∷ ls) h = below_both n list (flat_map (λ ids. ids) ls) (h 0 (omega arith)) (joined_there n ls (λ j l. h (suc j) (omega arith)))
 
 -- the lines for one signal: all lists but its own have none
-none_joined : (f : ℕ → List ℕ) (lists : List (List StmtId)) → ((j : ℕ) → j < length lists → lines_in f (list_at lists j) ≡ []) → lines_in f (flat_map (λ ids. ids) lists) ≡ []
+none_joined : (f : ℕ → List Assigned) (lists : List (List StmtId)) → ((j : ℕ) → j < length lists → lines_in f (list_at lists j) ≡ []) → lines_in f (flat_map (λ ids. ids) lists) ≡ []
 none_joined f [] h = refl
 none_joined f (list ∷ ls) h =
     lines_append f list (flat_map (λ ids. ids) ls)
-    ∙ ap (λ (xs : List ℕ). xs ++ lines_in f (flat_map (λ ids. ids) ls)) (h 0 (omega arith))
+    ∙ ap (λ (xs : List Assigned). xs ++ lines_in f (flat_map (λ ids. ids) ls)) (h 0 (omega arith))
     ∙ none_joined f ls (λ j l. h (suc j) (omega arith))
 
-one_joined : (f : ℕ → List ℕ) (lists : List (List StmtId)) (k : ℕ) → k < length lists → ((j : ℕ) → j < length lists → (k ≡ j → ⊥) → lines_in f (list_at lists j) ≡ []) → lines_in f (flat_map (λ ids. ids) lists) ≡ lines_in f (list_at lists k)
+one_joined : (f : ℕ → List Assigned) (lists : List (List StmtId)) (k : ℕ) → k < length lists → ((j : ℕ) → j < length lists → (k ≡ j → ⊥) → lines_in f (list_at lists j) ≡ []) → lines_in f (flat_map (λ ids. ids) lists) ≡ lines_in f (list_at lists k)
 one_joined f [] k l h = absurd (omega arith)
 one_joined f (list ∷ ls) zero l h =
     lines_append f list (flat_map (λ ids. ids) ls)
-    ∙ ap (λ (xs : List ℕ). lines_in f list ++ xs) (none_joined f ls (λ j m. h (suc j) (omega arith) (λ e. omega (arith, e))))
+    ∙ ap (λ (xs : List Assigned). lines_in f list ++ xs) (none_joined f ls (λ j m. h (suc j) (omega arith) (λ e. omega (arith, e))))
     ∙ append-nil (lines_in f list)
 one_joined f (list ∷ ls) (suc k) l h =
     lines_append f list (flat_map (λ ids. ids) ls)
-    ∙ ap (λ (xs : List ℕ). xs ++ lines_in f (flat_map (λ ids. ids) ls)) (h 0 (omega arith) (λ e. omega (arith, e)))
+    ∙ ap (λ (xs : List Assigned). xs ++ lines_in f (flat_map (λ ids. ids) ls)) (h 0 (omega arith) (λ e. omega (arith, e)))
     ∙ one_joined f ls k (omega arith) (λ j m apart. h (suc j) (omega arith) (λ e. apart (omega (arith, e))))
 
-pub joined_put : (ss : List Signal) (x y : Design) (lists : List (List StmtId)) (list : List StmtId) (f : ℕ → Block) (ls : ℕ → List ℕ) → DraftKeeps y → y.signals ≡ ss → ListsPut x y (length y.signals) lists f ls → list ≡ flat_map (λ ids. ids) lists
+pub joined_put : (ss : List Signal) (x y : Design) (lists : List (List StmtId)) (list : List StmtId) (f : ℕ → Block) (ls : ℕ → List Assigned) → DraftKeeps y → y.signals ≡ ss → ListsPut x y (length y.signals) lists f ls → list ≡ flat_map (λ ids. ids) lists
     → ListPut x y list (all_lists ss f) ls
 joined_put ss x y lists list f ls keeps same h e =
     let many : length lists ≡ length ss = h.long ∙ ap length same in
@@ -185,15 +185,15 @@ copied_put x s ids list o h e f = rw (e, f) (record { grows = grows_same x; ther
 
 -- the assignment of a constant
 pub constant_put : (x y z w : Design) (list : List StmtId) (s : SigId) (number : ℤ) (shape : Shape) (value : ExprId) (t : TargetId) (id : StmtId) (line : ℕ) → shape ≡ shapes x s.0 → TermPut x y value.place (Constant number shape)
-    → TargetAdded y z (target.Whole s) t.place → StmtAdded z w (stmt.Assign t value line) id.place → list ≡ id ∷ [] → OnePut x w s.0 list (constant_in x s.0 number) (line ∷ [])
+    → TargetAdded y z (target.Whole s) t.place → StmtAdded z w (stmt.Assign t value line) id.place → list ≡ id ∷ [] → OnePut x w s.0 list (constant_in x s.0 number) (alone line ∷ [])
 constant_put x y z w list s number shape value t id line same p q r made =
     let within : id.place < length w.stmts = omega (arith, r.put.place, ap (λ (d : Design). length d.stmts) r.put.is, length_push z.stmts (stmt.Assign t value line)) in
     let value_is : term z value.place ≡ Constant number (shapes x s.0) = q.grows.stays.terms value.place p.within ∙ p.tree ∙ ap (Constant number) same in
     let tree_is : design.stmt w id.place ≡ tree.Assign (tree.Whole s.0) (Constant number (shapes x s.0)) =
     r.put.tree ∙ ap (λ (u : tree.Target). tree.Assign u (term z value.place)) q.put.tree ∙ ap (tree.Assign (tree.Whole s.0)) value_is in
     let block_is : block w (id ∷ []) ≡ constant_in x s.0 number = ap one tree_is in
-    let line_is : lines_at w s.0 id.place ≡ line ∷ [] =
-    r.lines s.0 ∙ ap (λ (u : tree.Target). target_lines u line s.0) q.put.tree ∙ ap (λ (b : Bool). replicate (cond b 1 0) line) (eq-eqb s.0 s.0 refl) in
+    let line_is : lines_at w s.0 id.place ≡ alone line ∷ [] =
+    r.lines s.0 ∙ ap (λ (u : tree.Target). target_lines u line s.0) q.put.tree ∙ ap (λ (b : Bool). cond b (alone line ∷ []) []) (eq-eqb s.0 s.0 refl) in
     rw made (record {
       grows = grows_then p.grows (grows_then q.grows r.grows);
       there = search (and_from (nat_lt id.place (length w.stmts)) true (lt-ltb id.place (length w.stmts) within) refl);
@@ -229,7 +229,7 @@ same_chosen x y k None b g = refl
 same_chosen x y k (Some f) b g = ap (λ (s : Shapes). one (tree.Assign (tree.Whole k) (Constant f.value (s k)))) (same_shapes x y g.signals)
 
 pub folds_none : (x : Design) (lists : List (List StmtId)) (folds : List (Option Folded)) → folds ≡ [] → AreFolds x lists 0 folds
-folds_none x lists folds e = record { long = ap length e; each = λ k l. absurd (omega arith); first = λ k l. absurd (omega arith) }
+folds_none x lists folds e = record { long = ap length e; each = λ k l. absurd (omega arith); lines = λ k l. absurd (omega arith) }
 
 -- a fact of each fold, and of one more
 each_fold : (P : ℕ → Option Folded → Type 0) (n : ℕ) (folds : List (Option Folded)) (fold : Option Folded) → length folds ≡ n → ((k : ℕ) → k < n → P k (fold_at folds k)) → P n fold → (k : ℕ) → k < n + 1 → P k (fold_at (folds ++ fold ∷ []) k)
@@ -242,16 +242,17 @@ each_fold P n folds fold long h e k l =
     ]
 
 pub folds_more : (x : Design) (lists : List (List StmtId)) (n : ℕ) (folds more : List (Option Folded)) (fold : Option Folded) (shown : List StmtId) → AreFolds x lists n folds → shown ≡ list_at lists n
-    → chosen x n fold (block x shown) ≡ folded_in x n (block x shown) → IsFirst fold (lines x n shown) → more ≡ folds ++ fold ∷ [] → AreFolds x lists (n + 1) more
+    → chosen x n fold (block x shown) ≡ folded_in x n (block x shown) → chosen_lines fold (lines x n shown) ≡ folded_lines (block_reads_none (block x shown)) (lines x n shown) → more ≡ folds ++ fold ∷ [] → AreFolds x lists (n + 1) more
 folds_more x lists n folds more fold shown h e f g made = rw made (record {
   long = length_push folds fold ∙ ap (λ (k : ℕ). k + 1) h.long;
   each = each_fold (λ k o. chosen x k o (block x (list_at lists k)) ≡ folded_lists x lists k) n folds fold h.long h.each (subst (λ (is : List StmtId). chosen x n fold (block x is) ≡ folded_in x n (block x is)) e f);
-  first = each_fold (λ k o. IsFirst o (lines x k (list_at lists k))) n folds fold h.long h.first (subst (λ (is : List StmtId). IsFirst fold (lines x n is)) e g);
+  lines = each_fold (λ k o. chosen_lines o (lines x k (list_at lists k)) ≡ folded_lines (block_reads_none (block x (list_at lists k))) (lines x k (list_at lists k))) n folds fold h.long h.lines
+      (subst (λ (is : List StmtId). chosen_lines fold (lines x n is) ≡ folded_lines (block_reads_none (block x is)) (lines x n is)) e g);
 })
 
 -- ---- lists that are made one after the other
 
-pub lists_none : (x : Design) (lists : List (List StmtId)) (f : ℕ → Block) (ls : ℕ → List ℕ) → lists ≡ [] → ListsPut x x 0 lists f ls
+pub lists_none : (x : Design) (lists : List (List StmtId)) (f : ℕ → Block) (ls : ℕ → List Assigned) → lists ≡ [] → ListsPut x x 0 lists f ls
 lists_none x lists f ls e = record {
   grows = grows_same x;
   long = ap length e;
@@ -271,7 +272,7 @@ each_list P n lists list long h e k l =
           subst (P k) (sym (get_or_push lists list [] k (long ∙ q))) (subst (λ (j : ℕ). P j list) q e)
     ]
 
-pub lists_more : (u x y : Design) (n : ℕ) (lists more : List (List StmtId)) (list : List StmtId) (f : ℕ → Block) (ls : ℕ → List ℕ) (b : Block) (bl : List ℕ) → ListsPut u x n lists f ls → OnePut x y n list b bl → b ≡ f n → bl ≡ ls n → more ≡ lists ++ list ∷ [] → ListsPut u y (n + 1) more f ls
+pub lists_more : (u x y : Design) (n : ℕ) (lists more : List (List StmtId)) (list : List StmtId) (f : ℕ → Block) (ls : ℕ → List Assigned) (b : Block) (bl : List Assigned) → ListsPut u x n lists f ls → OnePut x y n list b bl → b ≡ f n → bl ≡ ls n → more ≡ lists ++ list ∷ [] → ListsPut u y (n + 1) more f ls
 lists_more u x y n lists more list f ls b bl h p e d made = rw made (record {
   grows = grows_then h.grows p.grows;
   long = length_push lists list ∙ ap (λ (k : ℕ). k + 1) h.long;
@@ -281,7 +282,7 @@ lists_more u x y n lists more list f ls b bl h p e d made = rw made (record {
   lines = each_list (λ k is. lines y k is ≡ ls k) n lists list h.long (λ k l. lines_kept k (list_at lists k) p.grows (h.there k l) ∙ h.lines k l) (p.lines ∙ d);
 })
 
-pub lists_all : (u x : Design) (n m : ℕ) (lists : List (List StmtId)) (f : ℕ → Block) (ls : ℕ → List ℕ) → n ≡ m → ListsPut u x n lists f ls → ListsPut u x m lists f ls
+pub lists_all : (u x : Design) (n m : ℕ) (lists : List (List StmtId)) (f : ℕ → Block) (ls : ℕ → List Assigned) → n ≡ m → ListsPut u x n lists f ls → ListsPut u x m lists f ls
 lists_all u x n m lists f ls e h = subst (λ (k : ℕ). ListsPut u x k lists f ls) e h
 
 -- one that is folded
@@ -298,15 +299,9 @@ folded_more u x y k lists outs more folds fold d shown list h m l e f p q made =
     let lines_are : chosen_lines fold (lines x k shown) ≡ fold_lines u lists folds k = ap (chosen_lines fold) old_lines ∙ ap (λ (o : Option Folded). chosen_lines o (lines u k (list_at lists k))) own in
     lists_more u x y k outs more list (folded_lists u lists) (fold_lines u lists folds) (chosen x k fold (block x shown)) (chosen_lines fold (lines x k shown)) p q block_is lines_are made
 
--- the first line of some
-first_alone : (o : Option Folded) (ls : List ℕ) → IsFirst o ls → KeepsLines ls (chosen_lines o ls)
-first_alone None ls h = inl refl
-first_alone (Some f) [] h = absurd (cc)
-first_alone (Some f) (l ∷ ls) h = let same : l ≡ f.line = cc in inr (ap (λ (k : ℕ). k ∷ []) (sym same))
-
 -- the folded lists of a design's statements
 pub comb_put : (d x y z : Design) (ids : List StmtId) (lists : List (List StmtId)) (folds : List (Option Folded)) (list : List StmtId) → y.signals ≡ d.signals → ListsPut x y (length y.signals) lists (split_of d ids) (lines_for d ids) → AreFolds y lists (length y.signals) folds
-    → ListPut y z list (all_lists d.signals (folded_lists y lists)) (fold_lines y lists folds) → CombPut x z list (folded_of d ids) (lines_for d ids)
+    → ListPut y z list (all_lists d.signals (folded_lists y lists)) (fold_lines y lists folds) → ListPut x z list (folded_of d ids) (folded_lines_of d ids)
 comb_put d x y z ids lists folds list same h m p =
     let each = λ (j : ℕ) (l : j < length d.signals).
     ap (folded_in y j) (h.blocks j (omega (arith, ap length same))) ∙ ap (λ (f : Shapes). folded f j (reset_of y j) (split_of d ids j)) (same_shapes d y same) ∙ ap (λ (n : ℤ). folded (shapes d) j n (split_of d ids j)) (same_reset d y j same) in
@@ -316,13 +311,15 @@ comb_put d x y z ids lists folds list same h m p =
       block = p.block ∙ all_same d.signals (folded_lists y lists) (λ j. folded_in d j (split_of d ids j)) each;
       lines = λ k l.
           let i : k < length y.signals = omega (arith, as_many p.grows, l) in
-          subst (λ (ms : List ℕ). KeepsLines (lines_for d ids k) ms) (sym (p.lines k l ∙ ap (chosen_lines (fold_at folds k)) (h.lines k i)))
-          (first_alone (fold_at folds k) (lines_for d ids k) (subst (IsFirst (fold_at folds k)) (h.lines k i) (m.first k i)));
+          p.lines k l
+          ∙ m.lines k i
+          ∙ ap (λ (b : Block). folded_lines (block_reads_none b) (lines y k (list_at lists k))) (h.blocks k i)
+          ∙ ap (folded_lines (block_reads_none (split_of d ids k))) (h.lines k i);
     }
 
 -- ---- parts
 
-pub list_is : (x y : Design) (a : List StmtId) (s t : Block) (ls ms : ℕ → List ℕ) → s ≡ t → ((k : ℕ) → ls k ≡ ms k) → ListPut x y a s ls → ListPut x y a t ms
+pub list_is : (x y : Design) (a : List StmtId) (s t : Block) (ls ms : ℕ → List Assigned) → s ≡ t → ((k : ℕ) → ls k ≡ ms k) → ListPut x y a s ls → ListPut x y a t ms
 list_is x y a s t ls ms e f p = record { grows = p.grows; there = p.there; block = p.block ∙ e; lines = λ k l. p.lines k l ∙ f k }
 
 pub parts_none : (d x : Design) (parts : List SyncPart) → parts ≡ [] → PartsPut d x x 0 parts

@@ -27,8 +27,7 @@ use Rattle.lx_lowering.proofs.ListFacts.{lists_plain}
 use Rattle.lx_lowering.proofs.Lowering.{sync_depth, comb_depth}
 use Rattle.lx_lowering.proofs.Appends.{depth_append}
 use Rattle.lx_lower.specs.Lines.{lines, lines_at}
-use Rattle.lx_lower.specs.Lists.{AreParts, AreThere, CombPut, KeepsLines, PartsPut, folded_of, lists_of, part_at, split_of, sync_lines, sync_lists}
-use Rattle.lx_lower.specs.Puts.{lines_for}
+use Rattle.lx_lower.specs.Lists.{AreParts, AreThere, ListPut, PartsPut, folded_lines_of, folded_of, lists_of, part_at, split_of, sync_lines, sync_lists}
 use Rattle.lx_lower.specs.Lowers.{IsLoweringOf}
 use Rattle.lx_lower.specs.Plain as plain
 use Rattle.lx_lower.proofs.BySignal.{split_is_alone, sync_there}
@@ -64,7 +63,7 @@ record AreMade (d : Design) (w : Lists) : Type 0 where
   plain : plain.ArePlain (made d w)
   there : AreThere (made d w) w.comb
   comb : design.block (made d w) w.comb ≡ folded_of d d.comb
-  comb_lines : (x : ℕ) → x < length d.signals → KeepsLines (lines d x d.comb) (lines (made d w) x w.comb)
+  comb_lines : (x : ℕ) → x < length d.signals → lines (made d w) x w.comb ≡ folded_lines_of d d.comb x
   sync : AreParts (made d w) (length d.domains) w.sync (sync_lists d) (sync_lines d)
 
 -- ---- the statements of a domain are those of its part
@@ -271,7 +270,7 @@ pub record IsFinished (d x : Design) (comb : List StmtId) (sync : List SyncPart)
   pub plain : plain.ArePlain x
   pub there : AreThere x comb
   pub block : design.block x comb ≡ folded_of d d.comb
-  pub lines : (s : ℕ) → s < length x.signals → KeepsLines (lines d s d.comb) (lines x s comb)
+  pub lines : (s : ℕ) → s < length x.signals → lines x s comb ≡ folded_lines_of d d.comb s
   pub parts : AreParts x (length d.domains) sync (sync_lists d) (sync_lines d)
 
 finished_is : (d x : Design) (comb : List StmtId) (sync : List SyncPart) → Keeps d → IsFinished d (record x { signals = d.signals; memories = d.memories }) comb sync
@@ -298,12 +297,12 @@ is_lowering d x comb sync ds ports ios keep e f h g i j =
     rw (g, i, j) (subst (λ (y : Design). IsLoweringOf d (record y { comb = comb; sync = sync; domains = d.domains; ports = d.ports; ios = d.ios })) (sym same) own)
 
 -- the draft after its lists were put
-pub finished_as : (d x y z : Design) (comb : List StmtId) (sync : List SyncPart) → DraftKeeps z → plain.ArePlain z → CombPut x y comb (folded_of d d.comb) (lines_for d d.comb) → PartsPut d y z (length d.domains) sync → IsFinished d z comb sync
+pub finished_as : (d x y z : Design) (comb : List StmtId) (sync : List SyncPart) → DraftKeeps z → plain.ArePlain z → ListPut x y comb (folded_of d d.comb) (folded_lines_of d d.comb) → PartsPut d y z (length d.domains) sync → IsFinished d z comb sync
 finished_as d x y z comb sync keeps plain p q = record {
   keeps = keeps;
   plain = plain;
   there = there_kept comb q.grows p.there;
   block = block_kept comb q.grows p.there ∙ p.block;
-  lines = λ s l. subst (KeepsLines (lines d s d.comb)) (sym (lines_kept s comb q.grows p.there)) (p.lines s (omega (arith, as_many q.grows, l)));
+  lines = λ s l. lines_kept s comb q.grows p.there ∙ p.lines s (omega (arith, as_many q.grows, l));
   parts = q.are;
 }

@@ -2,7 +2,7 @@
 use Rattle.std.proofs.Common.{◌≡◌, ℕ, zero, suc, ◌+◌, ◌<◌, ◌≤◌, ◌≢◌, Bool, true, false, List, [], ◌∷◌, length, drop, get_or, nat_eq, nat_lt, refl, sym, ap, subst, ◌∙◌, arith, length-drop, eq-eqb, ne_eqb, eqb-true}
 use Rattle.std.specs.Prelude.{cond, IsTrue}
 use Rattle.std.proofs.lemmas.Bool.{and_parts, ltb-true}
-use Rattle.std.proofs.lemmas.List.{replicate-append-replicate}
+use Rattle.std.proofs.lemmas.List.{append-nil}
 use Rattle.lx_fhdl.specs.declared.exprs.Expr.{Expr}
 use Rattle.lx_circuit.specs.Shapes.{Shapes, shape_of}
 use Rattle.lx_circuit.specs.Statements as tree
@@ -18,7 +18,7 @@ use Rattle.lx_fhdl.specs.declared.exprs.SigId.{SigId}
 use Rattle.lx_fhdl.specs.declared.stmts.Target.{Target}
 use Rattle.lx_fhdl.specs.declared.stmts.Target.TheVariants as target
 use Rattle.lx_lowering.specs.Flat.{append, when, without_low, is_last, item_assigns, assigns, parts_assigns, items_assigns}
-use Rattle.lx_lower.specs.Lines.{both_lines, target_lines, targets_lines, times, times_in}
+use Rattle.lx_lower.specs.Lines.{Assigned, both_lines, target_lines, targets_lines, under, under_each}
 use Rattle.lx_lower.specs.Operands.{HasShape}
 use Rattle.lx_lower.specs.Owned.{AreOwned, CanAssign, Put, PutSome, PutUnder}
 use Rattle.lx_lower.specs.Plain.{Grows, TermPut}
@@ -26,7 +26,9 @@ use Rattle.lx_lower.specs.Ready.{IsReady, RestPut, choice}
 use Rattle.lx_lower.specs.Sources.{IsLowered, Read, place_at}
 use Rattle.lx_lower.specs.declared.operands.Operand.{Operand}
 use Rattle.lx_lower.specs.declared.owned.Own.{Own}
+use Rattle.lx_lower.specs.Puts.{items_lines}
 use Rattle.lx_lower.proofs.Items.{next_item, nothing_left}
+use Rattle.lx_lower.proofs.Lining.{under_append}
 use Rattle.lx_lower.proofs.Puts.{holds_is, holds_kept, holds_new, some_is, some_lines, some_more, some_grown, some_all, when_under}
 use Rattle.lx_lower.proofs.Sound.{grows_same, grows_then, same_shapes, term_kept}
 
@@ -163,36 +165,45 @@ items_next s g xs k z i e last l m h =
 -- the lines of a target and of those after it
 next_lines : (g : ℕ → tree.Target) (xs : List TargetId) (k : ℕ) (d : TargetId) (line : ℕ) → k < length xs → (x : ℕ) → targets_lines (targets_at g (drop k xs)) line x ≡ both_lines (target_lines (g (get_or xs k d).place) line) (targets_lines (targets_at g (drop (k + 1) xs)) line) x
 next_lines g xs k d line l x =
-    ap (λ (ys : List TargetId). targets_lines (targets_at g ys) line x) (next_item xs k d l) ∙ sym (replicate-append-replicate (times x (g (get_or xs k d).place)) (times_in x (targets_at g (drop (k + 1) xs))) line)
+    ap (λ (ys : List TargetId). targets_lines (targets_at g ys) line x) (next_item xs k d l)
 
 done_lines : (g : ℕ → tree.Target) (xs : List TargetId) (k line : ℕ) → length xs ≤ k → (x : ℕ) → targets_lines (targets_at g (drop k xs)) line x ≡ []
 done_lines g xs k line l x = ap (λ (ys : List TargetId). targets_lines (targets_at g ys) line x) (nothing_left xs k l)
 
+-- several items stand each under a condition, and a lone one under none
+pub several_items : (g : ℕ → tree.Target) (xs : List TargetId) (line : ℕ) → length xs ≢ 1 → (x : ℕ) → items_lines (targets_at g xs) line x ≡ under line (targets_lines (targets_at g xs) line x)
+several_items g [] line l x = refl
+several_items g (a ∷ []) line l x = absurd (l refl)
+several_items g (a ∷ b ∷ more) line l x = refl
+
+pub lone_item : (g : ℕ → tree.Target) (xs : List TargetId) (a : TargetId) (line : ℕ) → xs ≡ a ∷ [] → (x : ℕ) → target_lines (g a.place) line x ≡ items_lines (targets_at g xs) line x
+lone_item g xs a line e x = sym (ap (λ (ys : List TargetId). items_lines (targets_at g ys) line x) e ∙ append-nil (target_lines (g a.place) line x))
+
 -- one item more
-pub items_more : (s : Shapes) (g : ℕ → tree.Target) (xs : List TargetId) (k line : ℕ) (d : TargetId) (i e f h : Term) (last : Bool) (test : ℕ) {u x y z w : Design} {then_ a b c : List Own} {whole : Block} {ls : ℕ → List ℕ} → k < length xs → length xs ≢ 1 → last ≡ nat_eq (k + 1) (length xs) → f ≡ e → h ≡ i
-    → PutSome u x a b whole (items_assigns s k (targets_at g (drop k xs)) i e) ls (targets_lines (targets_at g (drop k xs)) line)
-    → Put x y [] then_ (assigns s (g (get_or xs k d).place) f) (target_lines (g (get_or xs k d).place) line) → shapes y ≡ s → TermPut y z test (choice (shapes y) h k last) → PutUnder z w b c (term z test) then_ []
-    → PutSome u w a c whole (items_assigns s (k + 1) (targets_at g (drop (k + 1) xs)) i e) ls (targets_lines (targets_at g (drop (k + 1) xs)) line)
+pub items_more : (s : Shapes) (g : ℕ → tree.Target) (xs : List TargetId) (k line : ℕ) (d : TargetId) (i e f h : Term) (last : Bool) (test : ℕ) {u x y z w : Design} {then_ a b c : List Own} {whole : Block} {ls : ℕ → List Assigned} → k < length xs → length xs ≢ 1 → last ≡ nat_eq (k + 1) (length xs) → f ≡ e → h ≡ i
+    → PutSome u x a b whole (items_assigns s k (targets_at g (drop k xs)) i e) ls (under_each line (targets_lines (targets_at g (drop k xs)) line))
+    → Put x y [] then_ (assigns s (g (get_or xs k d).place) f) (target_lines (g (get_or xs k d).place) line) → shapes y ≡ s → TermPut y z test (choice (shapes y) h k last) → PutUnder z w b c (term z test) then_ [] line
+    → PutSome u w a c whole (items_assigns s (k + 1) (targets_at g (drop (k + 1) xs)) i e) ls (under_each line (targets_lines (targets_at g (drop (k + 1) xs)) line))
 items_more s g xs k line d i e f h last test {z = z} {then_ = then_} {b = b} l m n o q p own sy r when_ =
     let tree : term z test ≡ choice s i k last = r.tree ∙ ap (λ (v : Shapes). choice v h k last) sy ∙ ap (λ (j : Term). choice s j k last) q in
     let t = g (get_or xs k d).place in
     some_more
-    (some_lines (next_lines g xs k d line l) (some_is (items_next s g xs k d i e last l m n) p))
+    (some_lines (λ j. ap (under line) (next_lines g xs k d line l j) ∙ under_append line (target_lines t line j) (targets_lines (targets_at g (drop (k + 1) xs)) line j)) (some_is (items_next s g xs k d i e last l m n) p))
     (when_under test (assigns s t e) (grows_then own.grows r.grows) p.owned (holds_is (ap (assigns s t) o) (holds_kept r.grows (holds_new own))) tree when_)
 
-pub items_done : (s : Shapes) (g : ℕ → tree.Target) (xs : List TargetId) (k line : ℕ) (i e : Term) {u x : Design} {a b : List Own} {whole : Block} {ls : ℕ → List ℕ} → length xs ≤ k
-    → PutSome u x a b whole (items_assigns s k (targets_at g (drop k xs)) i e) ls (targets_lines (targets_at g (drop k xs)) line) → Put u x a b whole ls
-items_done s g xs k line i e l p = some_all (done_lines g xs k line l) (some_is (ap (λ (ys : List TargetId). items_assigns s k (targets_at g ys) i e) (nothing_left xs k l)) p)
+pub items_done : (s : Shapes) (g : ℕ → tree.Target) (xs : List TargetId) (k line : ℕ) (i e : Term) {u x : Design} {a b : List Own} {whole : Block} {ls : ℕ → List Assigned} → length xs ≤ k
+    → PutSome u x a b whole (items_assigns s k (targets_at g (drop k xs)) i e) ls (under_each line (targets_lines (targets_at g (drop k xs)) line)) → Put u x a b whole ls
+items_done s g xs k line i e l p = some_all (λ j. ap (under line) (done_lines g xs k line l j)) (some_is (ap (λ (ys : List TargetId). items_assigns s k (targets_at g ys) i e) (nothing_left xs k l)) p)
 
 -- one part more
-pub parts_more : (s : Shapes) (g : ℕ → tree.Target) (xs : List TargetId) (k line : ℕ) (d : TargetId) (e f : Term) (last : Bool) {u x y z : Design} {a b c : List Own} {whole : Block} {ls : ℕ → List ℕ} → k < length xs → last ≡ nat_eq (k + 1) (length xs)
+pub parts_more : (s : Shapes) (g : ℕ → tree.Target) (xs : List TargetId) (k line : ℕ) (d : TargetId) (e f : Term) (last : Bool) {u x y z : Design} {a b c : List Own} {whole : Block} {ls : ℕ → List Assigned} → k < length xs → last ≡ nat_eq (k + 1) (length xs)
     → (last ≡ false → f ≡ without_low s (target_bits s (g (get_or xs k d).place)) e)
     → PutSome u x a b whole (parts_assigns s (targets_at g (drop k xs)) e) ls (targets_lines (targets_at g (drop k xs)) line)
     → Put x y b c (assigns s (g (get_or xs k d).place) e) (target_lines (g (get_or xs k d).place) line) → Grows y z
     → PutSome u z a c whole (parts_assigns s (targets_at g (drop (k + 1) xs)) f) ls (targets_lines (targets_at g (drop (k + 1) xs)) line)
 parts_more s g xs k line d e f last l n o p q grows = some_grown (some_more (some_lines (next_lines g xs k d line l) (some_is (parts_next s g xs k d e f last l n o) p)) q) grows
 
-pub parts_done : (s : Shapes) (g : ℕ → tree.Target) (xs : List TargetId) (k line : ℕ) (e : Term) {u x : Design} {a b : List Own} {whole : Block} {ls : ℕ → List ℕ} → length xs ≤ k
+pub parts_done : (s : Shapes) (g : ℕ → tree.Target) (xs : List TargetId) (k line : ℕ) (e : Term) {u x : Design} {a b : List Own} {whole : Block} {ls : ℕ → List Assigned} → length xs ≤ k
     → PutSome u x a b whole (parts_assigns s (targets_at g (drop k xs)) e) ls (targets_lines (targets_at g (drop k xs)) line) → Put u x a b whole ls
 parts_done s g xs k line e l p = some_all (done_lines g xs k line l) (some_is (ap (λ (ys : List TargetId). parts_assigns s (targets_at g ys) e) (nothing_left xs k l)) p)
 

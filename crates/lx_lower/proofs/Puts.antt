@@ -1,6 +1,6 @@
 -- Statements for signals that are put one after the other.
 use Rattle.std.proofs.Common.{◌≡◌, ℕ, ◌<◌, ◌≤◌, Bool, true, false, ◌&&◌, cond, List, [], ◌∷◌, ◌++◌, length, refl, sym, ap, subst, ◌∙◌, arith, nat_lt, nat_eq, eq-eqb, eqb-true, length-append, append_assoc}
-use Rattle.std.specs.Prelude.{Result, Ok, Err, OnOk, IsTrue, replicate}
+use Rattle.std.specs.Prelude.{Result, Ok, Err, OnOk, IsTrue}
 use Rattle.std.proofs.lemmas.List.{append-nil}
 use Rattle.std.proofs.lemmas.Bool.{and_parts, ltb-true, lt-ltb, and_from}
 use Rattle.lx_circuit.specs.Terms.{Term}
@@ -20,10 +20,11 @@ use Rattle.lx_fhdl.specs.declared.stmts.Target.{Target}
 use Rattle.lx_fhdl.proofs.StmtTrees.{block_same}
 use Rattle.lx_lowering.specs.Flat.{append, one, when, some_when, first_branch}
 use Rattle.lx_lowering.specs.Split.{lone_if, split, split_block}
-use Rattle.lx_lower.specs.Lines.{both_lines, lines, lines_at, lines_in, no_lines, node_lines, target_lines, times}
-use Rattle.lx_lower.specs.Owned.{ids_of, own_lines, all_owned, AreOwned, own, Put, PutSome, PutOne, PutUnder}
+use Rattle.lx_lower.specs.Lines.{Assigned, alone, both_lines, lines, lines_at, lines_in, no_lines, target_lines, under, under_each}
+use Rattle.lx_lower.specs.Owned.{node_lines_of, ids_of, own_lines, all_owned, AreOwned, own, Put, PutSome, PutOne, PutUnder}
 use Rattle.lx_lower.specs.Plain.{Grows, StmtAdded, TargetAdded}
 use Rattle.lx_lower.specs.declared.owned.Own.{Own}
+use Rattle.lx_lower.proofs.Lining.{under_append}
 use Rattle.lx_lower.proofs.Sound.{grows_same, grows_then}
 
 pub on_ok : {T E : Type 0} (r : Result T E) (P Q : Type 0) → (P → Q) → OnOk r P → OnOk r Q
@@ -103,15 +104,15 @@ pub own_kept : {x y : Design} (os : List Own) (k : ℕ) → Grows x y → AreOwn
 own_kept {x} {y} os k g h = block_kept (ids_of k os) g (ids_there x k os h)
 
 -- the lines too
-pub lines_append : (f : ℕ → List ℕ) (a b : List StmtId) → lines_in f (a ++ b) ≡ lines_in f a ++ lines_in f b
+pub lines_append : (f : ℕ → List Assigned) (a b : List StmtId) → lines_in f (a ++ b) ≡ lines_in f a ++ lines_in f b
 lines_append f [] b = refl
-lines_append f (i ∷ is) b = ap (λ (xs : List ℕ). f i.place ++ xs) (lines_append f is b) ∙ sym (append_assoc (f i.place) (lines_in f is) (lines_in f b))
+lines_append f (i ∷ is) b = ap (λ (xs : List Assigned). f i.place ++ xs) (lines_append f is b) ∙ sym (append_assoc (f i.place) (lines_in f is) (lines_in f b))
 
-lines_below : (f g : ℕ → List ℕ) (n : ℕ) (ids : List StmtId) → ((k : ℕ) → k < n → f k ≡ g k) → all_stmts_below n ids ≡ true → lines_in f ids ≡ lines_in g ids
+lines_below : (f g : ℕ → List Assigned) (n : ℕ) (ids : List StmtId) → ((k : ℕ) → k < n → f k ≡ g k) → all_stmts_below n ids ≡ true → lines_in f ids ≡ lines_in g ids
 lines_below f g n [] h b = refl
 lines_below f g n (i ∷ is) h b =
     let p = and_parts (nat_lt i.place n) (all_stmts_below n is) b in
-    ap (λ (xs : List ℕ). xs ++ lines_in f is) (h i.place (ltb-true i.place n p.0)) ∙ ap (λ (xs : List ℕ). g i.place ++ xs) (lines_below f g n is h p.1)
+    ap (λ (xs : List Assigned). xs ++ lines_in f is) (h i.place (ltb-true i.place n p.0)) ∙ ap (λ (xs : List Assigned). g i.place ++ xs) (lines_below f g n is h p.1)
 
 pub lines_kept : {x y : Design} (s : ℕ) (ids : List StmtId) → Grows x y → IsTrue (all_stmts_below (length x.stmts) ids) → lines y s ids ≡ lines x s ids
 lines_kept {x} {y} s ids g h = lines_below (lines_at y s) (lines_at x s) (length x.stmts) ids (λ k l. g.lines s k l) (search h)
@@ -121,37 +122,37 @@ own_lines_kept {x} {y} os k g h = lines_kept k (ids_of k os) g (ids_there x k os
 
 -- ---- statements that are put
 
-pub put_is : {x y : Design} {a b : List Own} {s t : Block} {ls : ℕ → List ℕ} → s ≡ t → Put x y a b s ls → Put x y a b t ls
+pub put_is : {x y : Design} {a b : List Own} {s t : Block} {ls : ℕ → List Assigned} → s ≡ t → Put x y a b s ls → Put x y a b t ls
 put_is {x} {y} {a} {b} {ls = ls} e p = subst (λ (w : Block). Put x y a b w ls) e p
 
-pub put_lines : {x y : Design} {a b : List Own} {s : Block} {ls ms : ℕ → List ℕ} → ((k : ℕ) → ls k ≡ ms k) → Put x y a b s ls → Put x y a b s ms
-put_lines {x} {a = a} e p = record { grows = p.grows; owned = p.owned; own = p.own; lines = λ k l. p.lines k l ∙ ap (λ (xs : List ℕ). own_lines x a k ++ xs) (e k) }
+pub put_lines : {x y : Design} {a b : List Own} {s : Block} {ls ms : ℕ → List Assigned} → ((k : ℕ) → ls k ≡ ms k) → Put x y a b s ls → Put x y a b s ms
+put_lines {x} {a = a} e p = record { grows = p.grows; owned = p.owned; own = p.own; lines = λ k l. p.lines k l ∙ ap (λ (xs : List Assigned). own_lines x a k ++ xs) (e k) }
 
 pub put_none : (x : Design) (a : List Own) → AreOwned x a → Put x x a a Done no_lines
 put_none x a h = record { grows = grows_same x; owned = h; own = λ k l. sym (append_done (own x a k)); lines = λ k l. sym (append-nil (own_lines x a k)) }
 
-pub put_then : {x y z : Design} {a b c : List Own} {s t : Block} {ls ms : ℕ → List ℕ} → Put x y a b s ls → Put y z b c t ms → Put x z a c (append s t) (both_lines ls ms)
+pub put_then : {x y z : Design} {a b c : List Own} {s t : Block} {ls ms : ℕ → List Assigned} → Put x y a b s ls → Put y z b c t ms → Put x z a c (append s t) (both_lines ls ms)
 put_then {x = x} {a = a} {s = s} {t = t} {ls = ls} {ms = ms} p q = record {
   grows = grows_then p.grows q.grows;
   owned = q.owned;
   own = λ k l.
       q.own k l ∙ ap (λ (w : Block). append w (split_block k t)) (p.own k (omega (arith, as_many q.grows))) ∙ append_all (own x a k) (split_block k s) (split_block k t)
       ∙ ap (append (own x a k)) (sym (split_append k s t));
-  lines = λ k l. q.lines k l ∙ ap (λ (xs : List ℕ). xs ++ ms k) (p.lines k (omega (arith, as_many q.grows))) ∙ append_assoc (own_lines x a k) (ls k) (ms k);
+  lines = λ k l. q.lines k l ∙ ap (λ (xs : List Assigned). xs ++ ms k) (p.lines k (omega (arith, as_many q.grows))) ∙ append_assoc (own_lines x a k) (ls k) (ms k);
 }
 
 -- after the draft grew
-pub put_after : {x y z : Design} {a b : List Own} {s : Block} {ls : ℕ → List ℕ} → Grows x y → AreOwned x a → Put y z a b s ls → Put x z a b s ls
+pub put_after : {x y z : Design} {a b : List Own} {s : Block} {ls : ℕ → List Assigned} → Grows x y → AreOwned x a → Put y z a b s ls → Put x z a b s ls
 put_after {a = a} {s = s} {ls = ls} g there p = record {
   grows = grows_then g p.grows;
   owned = p.owned;
   own = λ k l. p.own k l ∙ ap (λ (w : Block). append w (split_block k s)) (own_kept a k g there);
-  lines = λ k l. p.lines k l ∙ ap (λ (xs : List ℕ). xs ++ ls k) (own_lines_kept a k g there);
+  lines = λ k l. p.lines k l ∙ ap (λ (xs : List Assigned). xs ++ ls k) (own_lines_kept a k g there);
 }
 
 -- one statement
 pub put_one : (x y : Design) (node : Stmt) (a : List Own) (signal : SigId) (id : StmtId) → AreOwned x a → signal.0 < length x.signals → StmtAdded x y node id.place
-    → PutOne x y a (a ++ (record { signal = signal; stmt = id }) ∷ []) signal.0 (node_stmt (term x) (design.target x) (design.stmt x) node) (node_lines (λ t. times signal.0 (design.target x t)) (lines_at x signal.0) node)
+    → PutOne x y a (a ++ (record { signal = signal; stmt = id }) ∷ []) signal.0 (node_stmt (term x) (design.target x) (design.stmt x) node) (node_lines_of x signal.0 node)
 put_one x y node a signal id h l p =
     let g = p.grows in
     let o : Own = record { signal = signal; stmt = id } in
@@ -172,8 +173,8 @@ put_one x y node a signal id h l p =
       lines =
           ap (lines y signal.0) (last signal.0 true (eq-eqb signal.0 signal.0 refl))
           ∙ lines_append (lines_at y signal.0) (ids_of signal.0 a) (id ∷ [])
-          ∙ ap (λ (xs : List ℕ). xs ++ (lines_at y signal.0 id.place ++ [])) (old_lines signal.0)
-          ∙ ap (λ (xs : List ℕ). own_lines x a signal.0 ++ xs) (append-nil (lines_at y signal.0 id.place) ∙ p.lines signal.0);
+          ∙ ap (λ (xs : List Assigned). xs ++ (lines_at y signal.0 id.place ++ [])) (old_lines signal.0)
+          ∙ ap (λ (xs : List Assigned). own_lines x a signal.0 ++ xs) (append-nil (lines_at y signal.0 id.place) ∙ p.lines signal.0);
       other_lines = λ k e. ap (lines y k) (last k false e ∙ append-nil (ids_of k a)) ∙ old_lines k;
     }
 
@@ -184,13 +185,13 @@ assign_is x y (tree.Part z low len) e h = ap (λ (k : ℕ). append (cond (nat_eq
 assign_is x y (tree.CatTarget parts) e h = absurd (cc)
 assign_is x y (tree.PickTarget items index) e h = absurd (cc)
 
-pub times_others : (x y : ℕ) (t : tree.Target) → is_plain_target x t ≡ true → nat_eq x y ≡ false → times y t ≡ 0
-times_others x y (tree.Whole z) h e = ap (λ (k : ℕ). cond (nat_eq k y) 1 0) (eqb-true z x h) ∙ ap (λ (b : Bool). cond b 1 0) e
-times_others x y (tree.Part z low len) h e = ap (λ (k : ℕ). cond (nat_eq k y) 1 0) (eqb-true z x h) ∙ ap (λ (b : Bool). cond b 1 0) e
-times_others x y (tree.CatTarget parts) h e = absurd (cc)
-times_others x y (tree.PickTarget items index) h e = absurd (cc)
+pub target_others : (x y line : ℕ) (t : tree.Target) → is_plain_target x t ≡ true → nat_eq x y ≡ false → target_lines t line y ≡ []
+target_others x y line (tree.Whole z) h e = ap (λ (k : ℕ). cond (nat_eq k y) (alone line ∷ []) []) (eqb-true z x h) ∙ ap (λ (b : Bool). cond b (alone line ∷ []) []) e
+target_others x y line (tree.Part z low len) h e = ap (λ (k : ℕ). cond (nat_eq k y) (alone line ∷ []) []) (eqb-true z x h) ∙ ap (λ (b : Bool). cond b (alone line ∷ []) []) e
+target_others x y line (tree.CatTarget parts) h e = absurd (cc)
+target_others x y line (tree.PickTarget items index) h e = absurd (cc)
 
-own_put : (x y z : Design) (a b : List Own) (s line : ℕ) (t : tree.Target) (e : Term) → Grows x y → AreOwned x a → is_plain_target s t ≡ true → PutOne y z a b s (tree.Assign t e) (replicate (times s t) line) → Put x z a b (one (tree.Assign t e)) (target_lines t line)
+own_put : (x y z : Design) (a b : List Own) (s line : ℕ) (t : tree.Target) (e : Term) → Grows x y → AreOwned x a → is_plain_target s t ≡ true → PutOne y z a b s (tree.Assign t e) (target_lines t line s) → Put x z a b (one (tree.Assign t e)) (target_lines t line)
 own_put x y z a b s line t e g h plain p = record {
   grows = grows_then g p.grows;
   owned = p.owned;
@@ -213,12 +214,12 @@ own_put x y z a b s line t e g h plain p = record {
 
     by_line : (k : ℕ) (r : Bool) → nat_eq s k ≡ r → own_lines z b k ≡ own_lines x a k ++ target_lines t line k
     by_line k true q =
-        subst (λ (j : ℕ). own_lines z b j ≡ own_lines y a j ++ target_lines t line j) (eqb-true s k q) p.lines ∙ ap (λ (xs : List ℕ). xs ++ target_lines t line k) (own_lines_kept a k g h)
+        subst (λ (j : ℕ). own_lines z b j ≡ own_lines y a j ++ target_lines t line j) (eqb-true s k q) p.lines ∙ ap (λ (xs : List Assigned). xs ++ target_lines t line k) (own_lines_kept a k g h)
     by_line k false q =
         p.other_lines k q
         ∙ own_lines_kept a k g h
         ∙ sym (append-nil (own_lines x a k))
-        ∙ ap (λ (n : ℕ). own_lines x a k ++ replicate n line) (sym (times_others s k t plain q))
+        ∙ ap (λ (xs : List Assigned). own_lines x a k ++ xs) (sym (target_others s k line t plain q))
 
 -- an assignment to a target that was added
 pub assign_added : (x y : Design) (t : Target) (id : TargetId) (value : ExprId) (line : ℕ) → TargetAdded x y t id.place → value.place < length x.exprs → CanAddStmt y (stmt.Assign id value line)
@@ -228,12 +229,12 @@ assign_added x y t id value line p l = record {
 }
 
 pub one_put : (x y z : Design) (a b : List Own) (s : ℕ) (t : Target) (id : TargetId) (value : ExprId) (line : ℕ) → AreOwned x a → value.place < length x.exprs → TargetAdded x y t id.place → is_plain_target s (node_target (term x) (design.target x) t) ≡ true
-    → PutOne y z a b s (node_stmt (term y) (design.target y) (design.stmt y) (stmt.Assign id value line)) (node_lines (λ k. times s (design.target y k)) (lines_at y s) (stmt.Assign id value line))
+    → PutOne y z a b s (node_stmt (term y) (design.target y) (design.stmt y) (stmt.Assign id value line)) (node_lines_of y s (stmt.Assign id value line))
     → Put x z a b (one (tree.Assign (node_target (term x) (design.target x) t) (term x value.place))) (target_lines (node_target (term x) (design.target x) t) line)
 one_put x y z a b s t id value line h l put plain p =
     let own = node_target (term x) (design.target x) t in
-    let q = subst (λ (e : Term). PutOne y z a b s (tree.Assign (design.target y id.place) e) (replicate (times s (design.target y id.place)) line)) (put.grows.stays.terms value.place l) p in
-    own_put x y z a b s line own (term x value.place) put.grows h plain (subst (λ (u : tree.Target). PutOne y z a b s (tree.Assign u (term x value.place)) (replicate (times s u) line)) put.put.tree q)
+    let q = subst (λ (e : Term). PutOne y z a b s (tree.Assign (design.target y id.place) e) (target_lines (design.target y id.place) line s)) (put.grows.stays.terms value.place l) p in
+    own_put x y z a b s line own (term x value.place) put.grows h plain (subst (λ (u : tree.Target). PutOne y z a b s (tree.Assign u (term x value.place)) (target_lines u line s)) put.put.tree q)
 
 -- ---- conditions
 
@@ -250,38 +251,38 @@ first_when c Done = refl
 first_when c (Then s ss) = refl
 
 -- what was put from nothing
-pub own_new : {x y : Design} {a : List Own} {b : Block} {ls : ℕ → List ℕ} (k : ℕ) → Put x y [] a b ls → k < length y.signals → own y a k ≡ split_block k b
+pub own_new : {x y : Design} {a : List Own} {b : Block} {ls : ℕ → List Assigned} (k : ℕ) → Put x y [] a b ls → k < length y.signals → own y a k ≡ split_block k b
 own_new k p l = p.own k l
 
-pub lines_new : {x y : Design} {a : List Own} {b : Block} {ls : ℕ → List ℕ} (k : ℕ) → Put x y [] a b ls → k < length y.signals → own_lines y a k ≡ ls k
+pub lines_new : {x y : Design} {a : List Own} {b : Block} {ls : ℕ → List Assigned} (k : ℕ) → Put x y [] a b ls → k < length y.signals → own_lines y a k ≡ ls k
 lines_new k p l = p.lines k l
 
 -- what lists have for each signal: a block's statements and these lines
-pub record Holds (d : Design) (os : List Own) (b : Block) (ls : ℕ → List ℕ) : Type 0 where
+pub record Holds (d : Design) (os : List Own) (b : Block) (ls : ℕ → List Assigned) : Type 0 where
   pub owned : AreOwned d os
   pub own : (k : ℕ) → k < length d.signals → own d os k ≡ split_block k b
   pub lines : (k : ℕ) → k < length d.signals → own_lines d os k ≡ ls k
 
-pub holds_new : {x y : Design} {a : List Own} {b : Block} {ls : ℕ → List ℕ} → Put x y [] a b ls → Holds y a b ls
+pub holds_new : {x y : Design} {a : List Own} {b : Block} {ls : ℕ → List Assigned} → Put x y [] a b ls → Holds y a b ls
 holds_new p = record { owned = p.owned; own = p.own; lines = p.lines }
 
 pub holds_none : (d : Design) → Holds d [] Done no_lines
 holds_none d = record { owned = search; own = λ k l. refl; lines = λ k l. refl }
 
-pub holds_kept : {x y : Design} {a : List Own} {b : Block} {ls : ℕ → List ℕ} → Grows x y → Holds x a b ls → Holds y a b ls
+pub holds_kept : {x y : Design} {a : List Own} {b : Block} {ls : ℕ → List Assigned} → Grows x y → Holds x a b ls → Holds y a b ls
 holds_kept {a = a} g h = record {
   owned = owned_kept a g h.owned;
   own = λ k l. own_kept a k g h.owned ∙ h.own k (omega (arith, as_many g));
   lines = λ k l. own_lines_kept a k g h.owned ∙ h.lines k (omega (arith, as_many g));
 }
 
-pub holds_is : {d : Design} {a : List Own} {b c : Block} {ls : ℕ → List ℕ} → b ≡ c → Holds d a b ls → Holds d a c ls
+pub holds_is : {d : Design} {a : List Own} {b c : Block} {ls : ℕ → List Assigned} → b ≡ c → Holds d a b ls → Holds d a c ls
 holds_is {d} {a} {ls = ls} e h = subst (λ (w : Block). Holds d a w ls) e h
 
 -- under a condition, with a rest
-pub under_put : (c : ℕ) (s r : Block) {x z w : Design} {then_ else_ a b : List Own} {t : Term} {ls ms : ℕ → List ℕ} → Grows x z → AreOwned x a → Holds z then_ s ls → Holds z else_ r ms → term z c ≡ t
-    → PutUnder z w a b (term z c) then_ else_ → Put x w a b (first_branch t s tree.NoBranch Done r) (both_lines ls ms)
-under_put c s r {x = x} {z = z} {then_ = then_} {else_ = else_} {a = a} {t = t} {ls = ls} {ms = ms} g h f e q p = record {
+pub under_put : (c : ℕ) (s r : Block) {x z w : Design} {then_ else_ a b : List Own} {t : Term} {line : ℕ} {ls ms : ℕ → List Assigned} → Grows x z → AreOwned x a → Holds z then_ s ls → Holds z else_ r ms → term z c ≡ t
+    → PutUnder z w a b (term z c) then_ else_ line → Put x w a b (first_branch t s tree.NoBranch Done r) (both_lines (under_each line ls) (under_each line ms))
+under_put c s r {x = x} {z = z} {then_ = then_} {else_ = else_} {a = a} {t = t} {line = line} {ls = ls} {ms = ms} g h f e q p = record {
   grows = grows_then g p.grows;
   owned = p.owned;
   own = λ k l.
@@ -296,18 +297,19 @@ under_put c s r {x = x} {z = z} {then_ = then_} {else_ = else_} {a = a} {t = t} 
   lines = λ k l.
       let m : k < length z.signals = omega (arith, as_many p.grows) in
       p.lines k l
-      ∙ ap (λ (xs : List ℕ). xs ++ (own_lines z then_ k ++ own_lines z else_ k)) (own_lines_kept a k g h)
-      ∙ ap (λ (xs : List ℕ). own_lines x a k ++ (xs ++ own_lines z else_ k)) (f.lines k m)
-      ∙ ap (λ (xs : List ℕ). own_lines x a k ++ (ls k ++ xs)) (e.lines k m);
+      ∙ ap (λ (xs : List Assigned). xs ++ under line (own_lines z then_ k ++ own_lines z else_ k)) (own_lines_kept a k g h)
+      ∙ ap (λ (xs : List Assigned). own_lines x a k ++ under line (xs ++ own_lines z else_ k)) (f.lines k m)
+      ∙ ap (λ (xs : List Assigned). own_lines x a k ++ under line (ls k ++ xs)) (e.lines k m)
+      ∙ ap (λ (xs : List Assigned). own_lines x a k ++ xs) (under_append line (ls k) (ms k));
 }
 
 -- under a condition alone
-pub some_under : (c : ℕ) (s : Block) {x z w : Design} {then_ a b : List Own} {t : Term} {ls : ℕ → List ℕ} → Grows x z → AreOwned x a → Holds z then_ s ls → term z c ≡ t → PutUnder z w a b (term z c) then_ [] → Put x w a b (some_when t s) ls
-some_under c s {x = x} {z = z} {w = w} {then_ = then_} {a = a} {b = b} {t = t} {ls = ls} g h f q p =
-    put_lines (λ k. append-nil (ls k)) (put_is (first_when t s) (under_put c s Done {x = x} {z = z} {w = w} {then_ = then_} {else_ = []} {a = a} {b = b} {t = t} {ls = ls} {ms = no_lines} g h f (holds_none z) q p))
+pub some_under : (c : ℕ) (s : Block) {x z w : Design} {then_ a b : List Own} {t : Term} {line : ℕ} {ls : ℕ → List Assigned} → Grows x z → AreOwned x a → Holds z then_ s ls → term z c ≡ t → PutUnder z w a b (term z c) then_ [] line → Put x w a b (some_when t s) (under_each line ls)
+some_under c s {x = x} {z = z} {w = w} {then_ = then_} {a = a} {b = b} {t = t} {line = line} {ls = ls} g h f q p =
+    put_lines (λ k. append-nil (under line (ls k))) (put_is (first_when t s) (under_put c s Done {x = x} {z = z} {w = w} {then_ = then_} {else_ = []} {a = a} {b = b} {t = t} {line = line} {ls = ls} {ms = no_lines} g h f (holds_none z) q p))
 
-pub when_under : (c : ℕ) (s : Block) {x z w : Design} {then_ a b : List Own} {t : Term} {ls : ℕ → List ℕ} → Grows x z → AreOwned x a → Holds z then_ s ls → term z c ≡ t → PutUnder z w a b (term z c) then_ [] → Put x w a b (when t s) ls
-when_under c s {x = x} {z = z} {then_ = then_} {a = a} {t = t} {ls = ls} g h f q p = record {
+pub when_under : (c : ℕ) (s : Block) {x z w : Design} {then_ a b : List Own} {t : Term} {line : ℕ} {ls : ℕ → List Assigned} → Grows x z → AreOwned x a → Holds z then_ s ls → term z c ≡ t → PutUnder z w a b (term z c) then_ [] line → Put x w a b (when t s) (under_each line ls)
+when_under c s {x = x} {z = z} {then_ = then_} {a = a} {t = t} {line = line} {ls = ls} g h f q p = record {
   grows = grows_then g p.grows;
   owned = p.owned;
   own = λ k l.
@@ -318,16 +320,16 @@ when_under c s {x = x} {z = z} {then_ = then_} {a = a} {t = t} {ls = ls} g h f q
   lines = λ k l.
       let m : k < length z.signals = omega (arith, as_many p.grows) in
       p.lines k l
-      ∙ ap (λ (xs : List ℕ). xs ++ (own_lines z then_ k ++ [])) (own_lines_kept a k g h)
-      ∙ ap (λ (xs : List ℕ). own_lines x a k ++ xs) (append-nil (own_lines z then_ k) ∙ f.lines k m);
+      ∙ ap (λ (xs : List Assigned). xs ++ under line (own_lines z then_ k ++ [])) (own_lines_kept a k g h)
+      ∙ ap (λ (xs : List Assigned). own_lines x a k ++ under line xs) (append-nil (own_lines z then_ k) ∙ f.lines k m);
 }
 
 -- ---- some of the statements that are to be put
 
-pub some_start : (x : Design) (a : List Own) (w : Block) (ls : ℕ → List ℕ) → AreOwned x a → PutSome x x a a w w ls ls
+pub some_start : (x : Design) (a : List Own) (w : Block) (ls : ℕ → List Assigned) → AreOwned x a → PutSome x x a a w w ls ls
 some_start x a w ls h = record { grows = grows_same x; owned = h; own = λ k l. refl; lines = λ k l. refl }
 
-pub some_more : {x y z : Design} {a b c : List Own} {w s r : Block} {ls ms ns : ℕ → List ℕ} → PutSome x y a b w (append s r) ls (both_lines ms ns) → Put y z b c s ms → PutSome x z a c w r ls ns
+pub some_more : {x y z : Design} {a b c : List Own} {w s r : Block} {ls ms ns : ℕ → List Assigned} → PutSome x y a b w (append s r) ls (both_lines ms ns) → Put y z b c s ms → PutSome x z a c w r ls ns
 some_more {y = y} {b = b} {s = s} {r = r} {ms = ms} {ns = ns} p q = record {
   grows = grows_then p.grows q.grows;
   owned = q.owned;
@@ -337,12 +339,12 @@ some_more {y = y} {b = b} {s = s} {r = r} {ms = ms} {ns = ns} p q = record {
       ∙ ap (append (own y b k)) (sym (split_append k s r))
       ∙ p.own k (omega (arith, as_many q.grows));
   lines = λ k l.
-      ap (λ (xs : List ℕ). xs ++ ns k) (q.lines k l)
+      ap (λ (xs : List Assigned). xs ++ ns k) (q.lines k l)
       ∙ append_assoc (own_lines y b k) (ms k) (ns k)
       ∙ p.lines k (omega (arith, as_many q.grows));
 }
 
-pub some_last : {x y z : Design} {a b c : List Own} {w r : Block} {ls ms : ℕ → List ℕ} → PutSome x y a b w r ls ms → Put y z b c r ms → Put x z a c w ls
+pub some_last : {x y z : Design} {a b c : List Own} {w r : Block} {ls ms : ℕ → List Assigned} → PutSome x y a b w r ls ms → Put y z b c r ms → Put x z a c w ls
 some_last p q = record {
   grows = grows_then p.grows q.grows;
   owned = q.owned;
@@ -350,24 +352,24 @@ some_last p q = record {
   lines = λ k l. q.lines k l ∙ p.lines k (omega (arith, as_many q.grows));
 }
 
-pub some_is : {x y : Design} {a b : List Own} {w r q : Block} {ls ms : ℕ → List ℕ} → r ≡ q → PutSome x y a b w r ls ms → PutSome x y a b w q ls ms
+pub some_is : {x y : Design} {a b : List Own} {w r q : Block} {ls ms : ℕ → List Assigned} → r ≡ q → PutSome x y a b w r ls ms → PutSome x y a b w q ls ms
 some_is {x} {y} {a} {b} {w} {ls = ls} {ms = ms} e p = subst (λ (v : Block). PutSome x y a b w v ls ms) e p
 
-pub some_lines : {x y : Design} {a b : List Own} {w r : Block} {ls ms ns : ℕ → List ℕ} → ((k : ℕ) → ms k ≡ ns k) → PutSome x y a b w r ls ms → PutSome x y a b w r ls ns
-some_lines {y = y} {b = b} e p = record { grows = p.grows; owned = p.owned; own = p.own; lines = λ k l. ap (λ (xs : List ℕ). own_lines y b k ++ xs) (sym (e k)) ∙ p.lines k l }
+pub some_lines : {x y : Design} {a b : List Own} {w r : Block} {ls ms ns : ℕ → List Assigned} → ((k : ℕ) → ms k ≡ ns k) → PutSome x y a b w r ls ms → PutSome x y a b w r ls ns
+some_lines {y = y} {b = b} e p = record { grows = p.grows; owned = p.owned; own = p.own; lines = λ k l. ap (λ (xs : List Assigned). own_lines y b k ++ xs) (sym (e k)) ∙ p.lines k l }
 
-pub some_grown : {x y z : Design} {a b : List Own} {w r : Block} {ls ms : ℕ → List ℕ} → PutSome x y a b w r ls ms → Grows y z → PutSome x z a b w r ls ms
+pub some_grown : {x y z : Design} {a b : List Own} {w r : Block} {ls ms : ℕ → List Assigned} → PutSome x y a b w r ls ms → Grows y z → PutSome x z a b w r ls ms
 some_grown {b = b} {r = r} {ms = ms} p g = record {
   grows = grows_then p.grows g;
   owned = owned_kept b g p.owned;
   own = λ k l. ap (λ (v : Block). append v (split_block k r)) (own_kept b k g p.owned) ∙ p.own k (omega (arith, as_many g));
-  lines = λ k l. ap (λ (xs : List ℕ). xs ++ ms k) (own_lines_kept b k g p.owned) ∙ p.lines k (omega (arith, as_many g));
+  lines = λ k l. ap (λ (xs : List Assigned). xs ++ ms k) (own_lines_kept b k g p.owned) ∙ p.lines k (omega (arith, as_many g));
 }
 
-pub some_all : {x y : Design} {a b : List Own} {w : Block} {ls ms : ℕ → List ℕ} → ((k : ℕ) → ms k ≡ []) → PutSome x y a b w Done ls ms → Put x y a b w ls
+pub some_all : {x y : Design} {a b : List Own} {w : Block} {ls ms : ℕ → List Assigned} → ((k : ℕ) → ms k ≡ []) → PutSome x y a b w Done ls ms → Put x y a b w ls
 some_all {y = y} {b = b} e p = record {
   grows = p.grows;
   owned = p.owned;
   own = λ k l. sym (append_done (own y b k)) ∙ p.own k l;
-  lines = λ k l. sym (append-nil (own_lines y b k)) ∙ ap (λ (xs : List ℕ). own_lines y b k ++ xs) (sym (e k)) ∙ p.lines k l;
+  lines = λ k l. sym (append-nil (own_lines y b k)) ∙ ap (λ (xs : List Assigned). own_lines y b k ++ xs) (sym (e k)) ∙ p.lines k l;
 }

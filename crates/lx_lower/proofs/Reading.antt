@@ -20,7 +20,7 @@ use Rattle.lx_fhdl.specs.Instance.{the_expr}
 use Rattle.lx_fhdl.specs.Keeping.{Keeps}
 use Rattle.lx_fhdl.specs.declared.design.Design.{Design}
 use Rattle.lx_lowering.proofs.LowerTerms.{lower_shape}
-use Rattle.lx_lower.specs.Lines.{lines_at}
+use Rattle.lx_lower.specs.Lines.{expr_shape, lines_at}
 use Rattle.lx_lower.specs.Operands.{HasShape}
 use Rattle.lx_lower.specs.Owned.{node_lines_of}
 use Rattle.lx_lower.specs.Sources.{Read, IsRead, IsLowered, place_at}
@@ -40,6 +40,9 @@ lowered_shape r d k read low l =
 pub lowered_has : (r : Read) (d : Design) (k : ℕ) → IsRead r → IsLowered r d → k < length r.places
     → HasShape d (record { id = slice_index_or r.places k (the_expr 0); shape = slice_index_or r.shapes k (shape 0 false) })
 lowered_has r d k read low l = record { there = low.within k l; shape = lowered_shape r d k read low l }
+
+pub shape_read : (r : Read) (k : ℕ) → IsRead r → k < length r.places → slice_index_or r.shapes k (shape 0 false) ≡ expr_shape r.design k
+shape_read r k read l = read.sized.each k (omega (arith, read.most))
 
 -- ---- nodes of the design
 

@@ -16,6 +16,7 @@ use Rattle.lx_fhdl.specs.declared.exprs.Expr.TheVariants.{Const, Sig, Unary, Bin
 use Rattle.lx_lowering.specs.Constants.{block_reads_none, names_none, reads_none, zeros, folded}
 use Rattle.lx_lowering.specs.Flat.{one}
 use Rattle.lx_lower.specs.declared.fixed.Fixed.{Fixed}
+use Rattle.lx_lower.specs.Lines.{Assigned, alone}
 use Rattle.lx_lower.specs.declared.fold.Folded.{Folded}
 
 -- whether the expression at a place is free
@@ -97,11 +98,6 @@ chosen d x None b = b
 chosen d x (Some f) b = constant_in d x f.value
 
 -- their lines, or that of the constant
-abbrev pub chosen_lines : Option Folded → List ℕ → List ℕ
+abbrev pub chosen_lines : Option Folded → List Assigned → List Assigned
 chosen_lines None ls = ls
-chosen_lines (Some f) ls = f.line ∷ []
-
--- the constant has the first line
-abbrev pub IsFirst : Option Folded → List ℕ → Type 0
-IsFirst None ls = Unit {0}
-IsFirst (Some f) ls = slice_get ls 0 ≡ Some f.line
+chosen_lines (Some f) ls = alone f.line ∷ []

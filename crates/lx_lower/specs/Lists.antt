@@ -1,5 +1,5 @@
 -- One list of statements for each signal.
-use Rattle.std.specs.Prelude.{◌≡◌, ◌⊎◌, ℕ, true, List, [], Option, None, ◌<◌, length, map, slice_index_or, take, IsTrue}
+use Rattle.std.specs.Prelude.{◌≡◌, ℕ, true, List, [], Option, None, ◌<◌, length, map, slice_index_or, IsTrue}
 use Rattle.lx_circuit.specs.Statements.{Block}
 use Rattle.lx_fhdl.specs.Below.{StmtId, all_stmts_below}
 use Rattle.lx_fhdl.specs.Designs.{block, made_of, stmts_of}
@@ -7,10 +7,11 @@ use Rattle.lx_fhdl.specs.Lowered.{are_for}
 use Rattle.lx_fhdl.specs.declared.design.Design.{Design}
 use Rattle.lx_fhdl.specs.declared.design.Signal.{Signal}
 use Rattle.lx_fhdl.specs.declared.design.SyncPart.{SyncPart}
+use Rattle.lx_lowering.specs.Constants.{block_reads_none}
 use Rattle.lx_lowering.specs.Lowering.{lists_from}
 use Rattle.lx_lowering.specs.Split.{split_block}
-use Rattle.lx_lower.specs.Fixed.{IsFirst, chosen, chosen_lines, folded_in}
-use Rattle.lx_lower.specs.Lines.{lines}
+use Rattle.lx_lower.specs.Fixed.{chosen, chosen_lines, folded_in}
+use Rattle.lx_lower.specs.Lines.{Assigned, folded_lines, lines}
 use Rattle.lx_lower.specs.declared.fold.Folded.{Folded}
 use Rattle.lx_lower.specs.Owned.{ids_of}
 use Rattle.lx_lower.specs.Plain.{Grows}
@@ -30,7 +31,7 @@ pub record AreBySignal (n : ℕ) (os : List Own) (lists : List (List StmtId)) : 
   pub each : (x : ℕ) → x < n → list_at lists x ≡ ids_of x os
 
 -- the draft grows by a list for each of the first n signals: with these blocks, each for its signal alone, and these lines
-pub record ListsPut (old new : Design) (n : ℕ) (lists : List (List StmtId)) (f : ℕ → Block) (ls : ℕ → List ℕ) : Type 0 where
+pub record ListsPut (old new : Design) (n : ℕ) (lists : List (List StmtId)) (f : ℕ → Block) (ls : ℕ → List Assigned) : Type 0 where
   pub grows : Grows old new
   pub long : length lists ≡ n
   pub there : (k : ℕ) → k < n → AreThere new (list_at lists k)
@@ -39,7 +40,7 @@ pub record ListsPut (old new : Design) (n : ℕ) (lists : List (List StmtId)) (f
   pub lines : (k : ℕ) → k < n → lines new k (list_at lists k) ≡ ls k
 
 -- by a list for the signal x
-pub record OnePut (old new : Design) (x : ℕ) (list : List StmtId) (b : Block) (ls : List ℕ) : Type 0 where
+pub record OnePut (old new : Design) (x : ℕ) (list : List StmtId) (b : Block) (ls : List Assigned) : Type 0 where
   pub grows : Grows old new
   pub there : AreThere new list
   pub alone : are_for x (block new list) ≡ true
@@ -58,22 +59,11 @@ pub record IsFor (d : Design) (x : ℕ) (ids : List StmtId) : Type 0 where
   pub alone : are_for x (block d ids) ≡ true
 
 -- the draft grows by statements with this block, and with these lines for each signal
-pub record ListPut (old new : Design) (list : List StmtId) (b : Block) (ls : ℕ → List ℕ) : Type 0 where
+pub record ListPut (old new : Design) (list : List StmtId) (b : Block) (ls : ℕ → List Assigned) : Type 0 where
   pub grows : Grows old new
   pub there : AreThere new list
   pub block : block new list ≡ b
   pub lines : (x : ℕ) → x < length new.signals → lines new x list ≡ ls x
-
--- the same lines, or the first one alone
-abbrev pub KeepsLines : List ℕ → List ℕ → Type 0
-KeepsLines old new = (new ≡ old) ⊎ (new ≡ take 1 old)
-
--- by combinatorial statements
-pub record CombPut (old new : Design) (list : List StmtId) (b : Block) (ls : ℕ → List ℕ) : Type 0 where
-  pub grows : Grows old new
-  pub there : AreThere new list
-  pub block : block new list ≡ b
-  pub lines : (x : ℕ) → x < length new.signals → KeepsLines (ls x) (lines new x list)
 
 -- ---- all signals
 
@@ -88,15 +78,15 @@ folded_lists d lists k = folded_in d k (block d (list_at lists k))
 abbrev pub fold_at : List (Option Folded) → ℕ → Option Folded
 fold_at folds k = slice_index_or folds k None
 
--- what the first n lists give their signals where they are folded, with the first line of each
+-- the lines of lists, or of the constants in their places
+abbrev pub fold_lines : Design → List (List StmtId) → List (Option Folded) → ℕ → List Assigned
+fold_lines d lists folds k = chosen_lines (fold_at folds k) (lines d k (list_at lists k))
+
+-- what the first n lists give their signals where they are folded, which are those that read nothing
 pub record AreFolds (d : Design) (lists : List (List StmtId)) (n : ℕ) (folds : List (Option Folded)) : Type 0 where
   pub long : length folds ≡ n
   pub each : (k : ℕ) → k < n → chosen d k (fold_at folds k) (block d (list_at lists k)) ≡ folded_lists d lists k
-  pub first : (k : ℕ) → k < n → IsFirst (fold_at folds k) (lines d k (list_at lists k))
-
--- the lines of lists, or of the constants in their places
-abbrev pub fold_lines : Design → List (List StmtId) → List (Option Folded) → ℕ → List ℕ
-fold_lines d lists folds k = chosen_lines (fold_at folds k) (lines d k (list_at lists k))
+  pub lines : (k : ℕ) → k < n → fold_lines d lists folds k ≡ folded_lines (block_reads_none (block d (list_at lists k))) (lines d k (list_at lists k))
 
 -- ---- a design's statements
 
@@ -110,11 +100,15 @@ lists_of d ids = all_lists d.signals (split_of d ids)
 abbrev pub folded_of : Design → List StmtId → Block
 folded_of d ids = all_lists d.signals (λ x. folded_in d x (split_of d ids x))
 
+-- the lines for the signal x, where its statements are folded if they read nothing
+abbrev pub folded_lines_of : Design → List StmtId → ℕ → List Assigned
+folded_lines_of d ids x = folded_lines (block_reads_none (split_of d ids x)) (lines d x ids)
+
 abbrev pub part_at : List SyncPart → ℕ → SyncPart
 part_at parts k = slice_index_or parts k (record { domain = 0; stmts = [] })
 
 -- one part for each of the first n domains, with these blocks and lines
-pub record AreParts (x : Design) (n : ℕ) (parts : List SyncPart) (g : ℕ → Block) (ls : ℕ → ℕ → List ℕ) : Type 0 where
+pub record AreParts (x : Design) (n : ℕ) (parts : List SyncPart) (g : ℕ → Block) (ls : ℕ → ℕ → List Assigned) : Type 0 where
   pub long : length parts ≡ n
   pub domain : (k : ℕ) → k < n → (part_at parts k).domain ≡ k
   pub there : (k : ℕ) → k < n → AreThere x (part_at parts k).stmts
@@ -126,7 +120,7 @@ abbrev pub sync_lists : Design → ℕ → Block
 sync_lists d k = lists_of d (stmts_of k d.sync)
 
 -- their lines for the signal x
-abbrev pub sync_lines : Design → ℕ → ℕ → List ℕ
+abbrev pub sync_lines : Design → ℕ → ℕ → List Assigned
 sync_lines d k x = lines d x (stmts_of k d.sync)
 
 -- the draft grows by the parts of the first n domains

@@ -8,12 +8,12 @@ use Rattle.lx_fhdl.specs.declared.design.Design.{Design}
 use Rattle.lx_lowering.specs.Lowering as lowering
 use Rattle.lx_lowering.specs.Lowering.{Lowers}
 use Rattle.lx_lower.specs.Lines.{lines}
-use Rattle.lx_lower.specs.Lists.{KeepsLines}
+use Rattle.lx_lower.specs.Lists.{folded_lines_of}
 
--- Each list assigns a signal from the same lines in the same order; a combinatorial one that reads nothing assigns it once,
--- from the first of them. How often a list assigns a signal is said by the circuit.
+-- Each list assigns a signal from the same lines in the same order, and under conditions from the same lines. What assigns
+-- it in comb and reads nothing is one assignment from the first of these lines, under no condition.
 pub record HasLines (d e : Design) : Type 0 where
-  pub comb : (x : ℕ) → x < length d.signals → KeepsLines (lines d x d.comb) (lines e x e.comb)
+  pub comb : (x : ℕ) → x < length d.signals → lines e x e.comb ≡ folded_lines_of d d.comb x
   pub sync : (x k : ℕ) → x < length d.signals → k < length d.domains → lines e x (stmts_of k e.sync) ≡ lines d x (stmts_of k d.sync)
 
 -- A lowered design keeps what a design keeps, has the signals, memories, domains and ports of the design, and means

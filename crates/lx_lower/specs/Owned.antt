@@ -14,7 +14,7 @@ use Rattle.lx_fhdl.specs.declared.stmts.Stmt.{Stmt}
 use Rattle.lx_fhdl.specs.declared.stmts.Target.{Target}
 use Rattle.lx_lowering.specs.Flat.{append, one}
 use Rattle.lx_lowering.specs.Split.{lone_if, split_block}
-use Rattle.lx_lower.specs.Lines.{lines, lines_at, node_lines, times}
+use Rattle.lx_lower.specs.Lines.{Assigned, assigned_by, expr_shape, lines, lines_at, node_lines, under}
 use Rattle.lx_lower.specs.Plain.{Grows}
 use Rattle.lx_lower.specs.declared.owned.Own.{Own}
 use Rattle.lx_lower.specs.declared.groups.Group.{Group}
@@ -37,25 +37,25 @@ abbrev pub own : Design → List Own → ℕ → Block
 own d os x = block d (ids_of x os)
 
 -- the lines of their assignments to it
-abbrev pub own_lines : Design → List Own → ℕ → List ℕ
+abbrev pub own_lines : Design → List Own → ℕ → List Assigned
 own_lines d os x = lines d x (ids_of x os)
 
 -- the list grows by what a block of flat statements assigns to each signal, from these lines
-pub record Put (old new : Design) (before after : List Own) (b : Block) (ls : ℕ → List ℕ) : Type 0 where
+pub record Put (old new : Design) (before after : List Own) (b : Block) (ls : ℕ → List Assigned) : Type 0 where
   pub grows : Grows old new
   pub owned : AreOwned new after
   pub own : (x : ℕ) → x < length new.signals → own new after x ≡ append (own old before x) (split_block x b)
   pub lines : (x : ℕ) → x < length new.signals → own_lines new after x ≡ own_lines old before x ++ ls x
 
 -- it grows by the first statements of a block, so that the rest is still to be put
-pub record PutSome (old new : Design) (before after : List Own) (whole rest : Block) (ls ms : ℕ → List ℕ) : Type 0 where
+pub record PutSome (old new : Design) (before after : List Own) (whole rest : Block) (ls ms : ℕ → List Assigned) : Type 0 where
   pub grows : Grows old new
   pub owned : AreOwned new after
   pub own : (x : ℕ) → x < length new.signals → append (own new after x) (split_block x rest) ≡ append (own old before x) (split_block x whole)
   pub lines : (x : ℕ) → x < length new.signals → own_lines new after x ++ ms x ≡ own_lines old before x ++ ls x
 
 -- the list grows by a statement for the signal x
-pub record PutOne (old new : Design) (before after : List Own) (x : ℕ) (t : tree.Stmt) (ls : List ℕ) : Type 0 where
+pub record PutOne (old new : Design) (before after : List Own) (x : ℕ) (t : tree.Stmt) (ls : List Assigned) : Type 0 where
   pub grows : Grows old new
   pub owned : AreOwned new after
   pub here : own new after x ≡ append (own old before x) (one t)
@@ -63,12 +63,12 @@ pub record PutOne (old new : Design) (before after : List Own) (x : ℕ) (t : tr
   pub lines : own_lines new after x ≡ own_lines old before x ++ ls
   pub other_lines : (y : ℕ) → nat_eq x y ≡ false → own_lines new after y ≡ own_lines old before y
 
--- the list grows by a condition for each signal that has statements where it holds or where it fails
-pub record PutUnder (old new : Design) (before after : List Own) (c : Term) (then_ else_ : List Own) : Type 0 where
+-- the list grows by a condition, from a line, for each signal that has statements where it holds or where it fails
+pub record PutUnder (old new : Design) (before after : List Own) (c : Term) (then_ else_ : List Own) (line : ℕ) : Type 0 where
   pub grows : Grows old new
   pub owned : AreOwned new after
   pub own : (x : ℕ) → x < length new.signals → own new after x ≡ append (own old before x) (lone_if c (own old then_ x) (own old else_ x))
-  pub lines : (x : ℕ) → x < length new.signals → own_lines new after x ≡ own_lines old before x ++ (own_lines old then_ x ++ own_lines old else_ x)
+  pub lines : (x : ℕ) → x < length new.signals → own_lines new after x ≡ own_lines old before x ++ under line (own_lines old then_ x ++ own_lines old else_ x)
 
 -- ---- nodes of a draft
 
@@ -79,8 +79,8 @@ abbrev pub target_of : Design → Target → tree.Target
 target_of d node = node_target (term d) (design.target d) node
 
 -- the lines for the signal x
-abbrev pub node_lines_of : Design → ℕ → Stmt → List ℕ
-node_lines_of d x node = node_lines (λ t. times x (design.target d t)) (lines_at d x) node
+abbrev pub node_lines_of : Design → ℕ → Stmt → List Assigned
+node_lines_of d x node = node_lines (assigned_by d x) (expr_shape d) (lines_at d x) node
 
 -- a target that is the signal x, or some of its bits
 pub record CanAssign (d : Design) (x : ℕ) (t : Target) : Type 0 where
@@ -156,11 +156,11 @@ pub record GroupStands (d : Design) (g : Group) : Type 0 where
   pub then_ : IsTrue (all_stmts_below (length d.stmts) g.then_)
   pub else_ : IsTrue (all_stmts_below (length d.stmts) g.else_)
 
--- the list grows by the condition of a group, if it has statements
-pub record PutGroup (old new : Design) (before after : List Own) (c : Term) (g : Group) : Type 0 where
+-- the list grows by the condition of a group, from a line, if it has statements
+pub record PutGroup (old new : Design) (before after : List Own) (c : Term) (g : Group) (line : ℕ) : Type 0 where
   pub grows : Grows old new
   pub owned : AreOwned new after
   pub here : own new after g.signal.0 ≡ append (own old before g.signal.0) (lone_if c (block old g.then_) (block old g.else_))
   pub others : (y : ℕ) → nat_eq g.signal.0 y ≡ false → own new after y ≡ own old before y
-  pub lines : own_lines new after g.signal.0 ≡ own_lines old before g.signal.0 ++ (lines old g.signal.0 g.then_ ++ lines old g.signal.0 g.else_)
+  pub lines : own_lines new after g.signal.0 ≡ own_lines old before g.signal.0 ++ under line (lines old g.signal.0 g.then_ ++ lines old g.signal.0 g.else_)
   pub other_lines : (y : ℕ) → nat_eq g.signal.0 y ≡ false → own_lines new after y ≡ own_lines old before y

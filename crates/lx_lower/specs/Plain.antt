@@ -10,7 +10,7 @@ use Rattle.lx_fhdl.specs.declared.design.Design.{Design}
 use Rattle.lx_fhdl.specs.declared.exprs.Expr.{Expr}
 use Rattle.lx_fhdl.specs.declared.stmts.Stmt.{Stmt}
 use Rattle.lx_fhdl.specs.declared.stmts.Target.{Target}
-use Rattle.lx_lower.specs.Lines.{lines_at, node_lines, times}
+use Rattle.lx_lower.specs.Lines.{assigned_by, expr_shape, lines_at, node_lines}
 
 -- no expression picks an item of a list
 abbrev pub ArePlain : Design → Type 0
@@ -45,7 +45,7 @@ pub record TargetAdded (old new : Design) (x : Target) (id : ℕ) : Type 0 where
 pub record StmtAdded (old new : Design) (x : Stmt) (id : ℕ) : Type 0 where
   pub grows : Grows old new
   pub put : StmtPut old new x id
-  pub lines : (s : ℕ) → lines_at new s id ≡ node_lines (λ t. times s (target old t)) (lines_at old s) x
+  pub lines : (s : ℕ) → lines_at new s id ≡ node_lines (assigned_by old s) (expr_shape old) (lines_at old s) x
 
 -- a tree more hangs there
 pub record TermPut (old new : Design) (id : ℕ) (t : Term) : Type 0 where

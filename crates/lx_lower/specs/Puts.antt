@@ -1,5 +1,6 @@
 -- What is put for targets and statements of the design that is read, as flat statements with their lines.
-use Rattle.std.specs.Prelude.{ℕ, List, [], None}
+use Rattle.std.specs.Prelude.{ℕ, Bool, true, List, [], None}
+use Rattle.lx_circuit.specs.Shapes.{shape_of}
 use Rattle.lx_circuit.specs.Statements as tree
 use Rattle.lx_circuit.specs.Terms.{Term}
 use Rattle.lx_fhdl.specs.Below.{StmtId, TargetId}
@@ -12,7 +13,7 @@ use Rattle.lx_fhdl.specs.declared.stmts.Branch.{Branch}
 use Rattle.lx_lowering.specs.Flat.{assigns, first_branch, flat, flat_arms, flat_block, flat_chain, flat_if, items_assigns, otherwise, parts_assigns, some_when}
 use Rattle.lx_lowering.specs.Terms.{lower_term}
 use Rattle.lx_lower.specs.Keys.{arms_block, none_after}
-use Rattle.lx_lower.specs.Lines.{arm_lines, both_lines, branch_lines, lines, lines_at, target_lines, targets_lines}
+use Rattle.lx_lower.specs.Lines.{Assigned, arm_lines, both_lines, branch_lines, expr_shape, has_branch, has_key, inside, lines, lines_at, lines_in, picked, target_lines, targets_lines}
 use Rattle.lx_lower.specs.Owned.{Put}
 use Rattle.lx_lower.specs.Sources.{Read}
 use Rattle.lx_lower.specs.declared.owned.Own.{Own}
@@ -22,14 +23,22 @@ abbrev pub flat_of : Design → List StmtId → tree.Block
 flat_of d ids = flat_block (shapes d) (design.block d ids)
 
 -- and their lines
-abbrev pub lines_for : Design → List StmtId → ℕ → List ℕ
+abbrev pub lines_for : Design → List StmtId → ℕ → List Assigned
 lines_for d ids x = lines d x ids
 
-abbrev pub branch_lines_for : Design → List Branch → ℕ → List ℕ
-branch_lines_for d branches x = branch_lines (lines_at d x) branches
+-- the lines of statements, branches and arms, under a condition from a line where there is one
+abbrev pub lines_inside : Design → Bool → ℕ → List StmtId → ℕ → List Assigned
+lines_inside d some line ids x = lines_in (inside some line (lines_at d x)) ids
 
-abbrev pub arm_lines_for : Design → List Arm → ℕ → List ℕ
-arm_lines_for d arms x = arm_lines (lines_at d x) arms
+abbrev pub branches_inside : Design → Bool → ℕ → List Branch → ℕ → List Assigned
+branches_inside d some line branches x = branch_lines (inside some line (lines_at d x)) branches
+
+abbrev pub arms_inside : Design → Bool → ℕ → List Arm → ℕ → List Assigned
+arms_inside d some line arms x = arm_lines (inside some line (lines_at d x)) arms
+
+-- those of the items of an Array, each under a condition where there are several
+abbrev pub items_lines : tree.Targets → ℕ → ℕ → List Assigned
+items_lines items line x = picked items line (targets_lines items line x)
 
 -- the trees of targets, branches and arms of the design
 abbrev pub targets_of : Design → List TargetId → tree.Targets
@@ -53,7 +62,7 @@ PutParts r old new a b ids v line = Put old new a b (parts_assigns (shapes r.des
 
 -- to the item at an index, a tree
 abbrev pub PutItems : Read → Design → Design → List Own → List Own → List TargetId → Term → (v line : ℕ) → Type 0
-PutItems r old new a b ids i v line = Put old new a b (items_assigns (shapes r.design) 0 (targets_of r.design ids) i (term old v)) (targets_lines (targets_of r.design ids) line)
+PutItems r old new a b ids i v line = Put old new a b (items_assigns (shapes r.design) 0 (targets_of r.design ids) i (term old v)) (items_lines (targets_of r.design ids) line)
 
 -- ---- statements of the design
 
@@ -63,31 +72,38 @@ PutStmt r old new a b k = Put old new a b (flat (shapes r.design) (design.stmt r
 abbrev pub PutStmts : Read → Design → Design → List Own → List Own → List StmtId → Type 0
 PutStmts r old new a b ids = Put old new a b (flat_of r.design ids) (lines_for r.design ids)
 
--- under the condition at c of the draft
-abbrev pub PutWhen : Read → Design → Design → List Own → List Own → ℕ → List StmtId → Type 0
-PutWhen r old new a b c ids = Put old new a b (some_when (term old c) (flat_of r.design ids)) (lines_for r.design ids)
+-- under the condition at c of the draft, from a line
+abbrev pub PutWhen : Read → Design → Design → List Own → List Own → (c line : ℕ) → List StmtId → Type 0
+PutWhen r old new a b c line ids = Put old new a b (some_when (term old c) (flat_of r.design ids)) (lines_inside r.design true line ids)
 
 -- branches and the rest
-abbrev pub PutIf : Read → Design → Design → List Own → List Own → List Branch → List StmtId → Type 0
-PutIf r old new a b branches rest = Put old new a b (flat_if (shapes r.design) (branches_of r.design branches) (flat_of r.design rest)) (both_lines (branch_lines_for r.design branches) (lines_for r.design rest))
+abbrev pub PutIf : Read → Design → Design → List Own → List Own → (line : ℕ) → List Branch → List StmtId → Type 0
+PutIf r old new a b line branches rest =
+    Put old new a b (flat_if (shapes r.design) (branches_of r.design branches) (flat_of r.design rest))
+    (both_lines (branches_inside r.design (has_branch branches) line branches) (lines_inside r.design (has_branch branches) line rest))
 
-abbrev pub PutLone : Read → Design → Design → List Own → List Own → Branch → List StmtId → Type 0
-PutLone r old new a b x rest =
-    Put old new a b (first_branch (lowered_at r.design x.cond.place) (flat_of r.design x.body) tree.NoBranch tree.Done (flat_of r.design rest)) (both_lines (lines_for r.design x.body) (lines_for r.design rest))
+abbrev pub PutLone : Read → Design → Design → List Own → List Own → (line : ℕ) → Branch → List StmtId → Type 0
+PutLone r old new a b line x rest =
+    Put old new a b (first_branch (lowered_at r.design x.cond.place) (flat_of r.design x.body) tree.NoBranch tree.Done (flat_of r.design rest))
+    (both_lines (lines_inside r.design true line x.body) (lines_inside r.design true line rest))
 
 -- further branches, where the condition at none of the draft says that none was taken
-abbrev pub PutChain : Read → Design → Design → List Own → List Own → ℕ → List Branch → List StmtId → Type 0
-PutChain r old new a b none branches rest =
-    Put old new a b (flat_chain (shapes r.design) (term old none) (branches_of r.design branches) (flat_of r.design rest)) (both_lines (branch_lines_for r.design branches) (lines_for r.design rest))
+abbrev pub PutChain : Read → Design → Design → List Own → List Own → (none line : ℕ) → List Branch → List StmtId → Type 0
+PutChain r old new a b none line branches rest =
+    Put old new a b (flat_chain (shapes r.design) (term old none) (branches_of r.design branches) (flat_of r.design rest))
+    (both_lines (branches_inside r.design true line branches) (lines_inside r.design true line rest))
 
 -- arms and the rest, by the expression at on of the design
-abbrev pub PutCase : Read → Design → Design → List Own → List Own → ℕ → List Arm → List StmtId → Type 0
-PutCase r old new a b on arms rest =
-    Put old new a b (flat_arms (shapes r.design) (lowered_at r.design on) [] None (arms_at (design.stmt r.design) arms) (flat_of r.design rest)) (both_lines (arm_lines_for r.design arms) (lines_for r.design rest))
+abbrev pub PutCase : Read → Design → Design → List Own → List Own → (on line : ℕ) → List Arm → List StmtId → Type 0
+PutCase r old new a b on line arms rest =
+    Put old new a b (flat_arms (shapes r.design) (lowered_at r.design on) [] None (arms_at (design.stmt r.design) arms) (flat_of r.design rest))
+    (both_lines (arms_inside r.design true line arms) (lines_inside r.design (has_key (expr_shape r.design on) arms) line rest))
 
 -- the arms alone, and the rest alone, by the expression at on of the draft
-abbrev pub PutArms : Read → Design → Design → List Own → List Own → ℕ → List Arm → Type 0
-PutArms r old new a b on arms = Put old new a b (arms_block (shapes r.design) (design.stmt r.design) (term old on) [] arms) (arm_lines_for r.design arms)
+abbrev pub PutArms : Read → Design → Design → List Own → List Own → (on line : ℕ) → List Arm → Type 0
+PutArms r old new a b on line arms = Put old new a b (arms_block (shapes r.design) (design.stmt r.design) (term old on) [] arms) (arms_inside r.design true line arms)
 
-abbrev pub PutOtherwise : Read → Design → Design → List Own → List Own → ℕ → List Arm → List StmtId → Type 0
-PutOtherwise r old new a b on arms rest = Put old new a b (otherwise (none_after (shapes r.design) (term old on) [] None arms) (flat_of r.design rest)) (lines_for r.design rest)
+abbrev pub PutOtherwise : Read → Design → Design → List Own → List Own → (on line : ℕ) → List Arm → List StmtId → Type 0
+PutOtherwise r old new a b on line arms rest =
+    Put old new a b (otherwise (none_after (shapes r.design) (term old on) [] None arms) (flat_of r.design rest))
+    (lines_inside r.design (has_key (shape_of (shapes r.design) (term old on)) arms) line rest)

@@ -142,7 +142,7 @@ fn put_block_when(
     requires ready { IsReady source.now draft.old out.old }
     requires cond { cond.place < length draft.old.exprs }
     requires stmts { LowerStmts source.now.design bound ids.now }
-    ensures { OnOk result (PutWhen source.now draft.old draft.new out.old out.new cond.place ids.now) }
+    ensures { OnOk result (PutWhen source.now draft.old draft.new out.old out.new cond.place line ids.now) }
 {
     let mut own = List::new(alloc);
     put_flat_block(alloc, source, draft, ids, bound, &mut own)?;
@@ -164,7 +164,7 @@ fn put_if(
     requires ready { IsReady source.now draft.old out.old }
     requires branches { LowerBranches source.now.design bound branches.now }
     requires rest { LowerStmts source.now.design bound rest.now }
-    ensures { OnOk result (PutIf source.now draft.old draft.new out.old out.new branches.now rest.now) }
+    ensures { OnOk result (PutIf source.now draft.old draft.new out.old out.new line branches.now rest.now) }
 {
     if branches.is_empty() {
         return put_flat_block(alloc, source, draft, rest, bound, out);
@@ -191,7 +191,7 @@ fn put_several(
     requires several { 2 ≤ length branches.now }
     requires branches { LowerBranches source.now.design bound branches.now }
     requires rest { LowerStmts source.now.design bound rest.now }
-    ensures { OnOk result (PutIf source.now draft.old draft.new out.old out.new branches.now rest.now) }
+    ensures { OnOk result (PutIf source.now draft.old draft.new out.old out.new line branches.now rest.now) }
 {
     let first = &branches[0];
     let cond = source.lowered(draft, first.cond);
@@ -217,18 +217,12 @@ fn put_lone(
     requires ready { IsReady source.now draft.old out.old }
     requires branch { LowerBranches source.now.design bound (branch.now ∷ []) }
     requires rest { LowerStmts source.now.design bound rest.now }
-    ensures { OnOk result (PutLone source.now draft.old draft.new out.old out.new branch.now rest.now) }
+    ensures { OnOk result (PutLone source.now draft.old draft.new out.old out.new line branch.now rest.now) }
 {
     let mut then_ = List::new(alloc);
     let mut else_ = List::new(alloc);
-    put_flat_block(
-        alloc,
-        source,
-        draft,
-        branch.body.as_slice(),
-        bound,
-        &mut then_,
-    )?;
+    let body = branch.body.as_slice();
+    put_flat_block(alloc, source, draft, body, bound, &mut then_)?;
     put_flat_block(alloc, source, draft, rest, bound, &mut else_)?;
     let cond = source.lowered(draft, branch.cond);
     put_under(
@@ -259,7 +253,7 @@ fn put_chain(
     requires none { IsBit draft.old none.place }
     requires branches { LowerBranches source.now.design bound branches.now }
     requires rest { LowerStmts source.now.design bound rest.now }
-    ensures { OnOk result (PutChain source.now draft.old draft.new out.old out.new none.place branches.now rest.now) }
+    ensures { OnOk result (PutChain source.now draft.old draft.new out.old out.new none.place line branches.now rest.now) }
 {
     let mut none = none;
     for branch in branches {
@@ -289,7 +283,7 @@ fn put_case(
     requires on { on.place < length source.now.places }
     requires arms { LowerArms source.now.design bound arms.now }
     requires rest { LowerStmts source.now.design bound rest.now }
-    ensures { OnOk result (PutCase source.now draft.old draft.new out.old out.new on.place arms.now rest.now) }
+    ensures { OnOk result (PutCase source.now draft.old draft.new out.old out.new on.place line arms.now rest.now) }
 {
     let on = source.lowered(draft, on);
     draft.keeps();
@@ -318,7 +312,7 @@ fn put_arms(
     requires on { HasShape draft.old on }
     requires arms { LowerArms source.now.design bound arms.now }
     requires fresh { AreFresh on.shape arms.now (length arms.now) fresh.now }
-    ensures { OnOk result (PutArms source.now draft.old draft.new out.old out.new on.id.place arms.now) }
+    ensures { OnOk result (PutArms source.now draft.old draft.new out.old out.new on.id.place line arms.now) }
 {
     for (number, arm) in arms.iter().enumerate() {
         let here = push_key(draft, on, fresh[number], arm.key)?;
@@ -346,7 +340,7 @@ fn put_otherwise(
     requires on { HasShape draft.old on }
     requires fresh { AreFresh on.shape arms.now (length arms.now) fresh.now }
     requires rest { LowerStmts source.now.design bound rest.now }
-    ensures { OnOk result (PutOtherwise source.now draft.old draft.new out.old out.new on.id.place arms.now rest.now) }
+    ensures { OnOk result (PutOtherwise source.now draft.old draft.new out.old out.new on.id.place line arms.now rest.now) }
 {
     if rest.is_empty() {
         return Ok(());

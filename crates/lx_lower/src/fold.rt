@@ -1,6 +1,6 @@
 //! Statements of one signal that read nothing: one assignment of what they give.
 
-ghost use Rattle.std.specs.Prelude.{◌≡◌, ◌+◌, ◌<◌, ◌≤◌, true, length, slice_get, IsTrue, Some};
+ghost use Rattle.std.specs.Prelude.{◌≡◌, ◌+◌, ◌<◌, ◌≤◌, true, length, IsTrue, Some};
 ghost use Rattle.lx_circuit.specs.Statements.{after_pieces, laid_over, pieces, taken, taken_block};
 ghost use Rattle.lx_fhdl.specs.Below.{all_stmts_below};
 ghost use Rattle.lx_fhdl.specs.Designs as designs;
@@ -8,8 +8,8 @@ ghost use Rattle.lx_fhdl.specs.Designs.{block, shapes};
 ghost use Rattle.lx_fhdl.specs.Lowered.{are_for, is_for, is_plain_target};
 ghost use Rattle.lx_fhdl.specs.Stmts.{branches_at};
 ghost use Rattle.lx_lowering.specs.Constants.{block_reads_none, branches_read_none, reads_none, zeros};
-ghost use Rattle.lx_lower.specs.Fixed.{IsForFree, AreForFree, IsFirst, chosen, folded_in};
-ghost use Rattle.lx_lower.specs.Lines.{lines, lines_at};
+ghost use Rattle.lx_lower.specs.Fixed.{IsForFree, AreForFree, chosen, chosen_lines, folded_in};
+ghost use Rattle.lx_lower.specs.Lines.{first_line, folded_lines, lines, lines_at};
 ghost use Rattle.lx_lower.specs.Ready.{LowerBranches, LowerStmts};
 
 use crate::known::Known;
@@ -139,7 +139,7 @@ fn after_block(known: &Known, x: SigId, pattern: u64, ids: &[StmtId], bound: usi
 fn first_line(known: &Known, x: SigId, id: StmtId) -> u32
     requires place { id.place < length known.now.stmts }
     requires alone { is_for x.0 (designs.stmt known.now id.place) ≡ true }
-    ensures { slice_get (lines_at known.now x.0 id.place) 0 ≡ Some result }
+    ensures { first_line (lines_at known.now x.0 id.place) ≡ Some result }
 {
     match known.stmt(id) {
         Stmt::Assign { line, .. } | Stmt::Case { line, .. } => *line,
@@ -161,7 +161,7 @@ fn first_line_in(known: &Known, x: SigId, ids: &[StmtId], bound: usize) -> u32
     requires some { 0 < length ids.now }
     requires stmts { LowerStmts known.now bound ids.now }
     requires alone { are_for x.0 (block known.now ids.now) ≡ true }
-    ensures { slice_get (lines known.now x.0 ids.now) 0 ≡ Some result }
+    ensures { first_line (lines known.now x.0 ids.now) ≡ Some result }
 {
     first_line(known, x, ids[0])
 }
@@ -172,7 +172,7 @@ pub fn fold_of(known: &Known, x: SigId, ids: &[StmtId]) -> Option<Folded>
     requires there { IsTrue (all_stmts_below (length known.now.stmts) ids.now) }
     requires alone { are_for x.0 (block known.now ids.now) ≡ true }
     ensures number { chosen known.now x.0 result (block known.now ids.now) ≡ folded_in known.now x.0 (block known.now ids.now) }
-    ensures line { IsFirst result (lines known.now x.0 ids.now) }
+    ensures line { chosen_lines result (lines known.now x.0 ids.now) ≡ folded_lines (block_reads_none (block known.now ids.now)) (lines known.now x.0 ids.now) }
 {
     let bound = known.stmts();
     if ids.is_empty() || !block_reads_none(known, ids, bound) {

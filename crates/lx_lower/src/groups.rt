@@ -122,7 +122,7 @@ pub fn copied_ids(alloc: Global, ids: &[StmtId]) -> Result<List<StmtId>, NoMemor
     Ok(list)
 }
 
-/// Adds the statements of a group under a condition, where there are any.
+/// Adds the statements of a group under a condition from a line, where there are any.
 fn put_group(
     alloc: Global,
     draft: &mut PlainDraft,
@@ -134,7 +134,7 @@ fn put_group(
     requires out { AreOwned draft.old out.old }
     requires cond { cond.place < length draft.old.exprs }
     requires group { GroupStands draft.old group.now }
-    ensures { OnOk result (PutGroup draft.old draft.new out.old out.new (term draft.old cond.place) group.now) }
+    ensures { OnOk result (PutGroup draft.old draft.new out.old out.new (term draft.old cond.place) group.now line) }
 {
     if group.then_.is_empty() && group.else_.is_empty() {
         return Ok(());
@@ -164,7 +164,7 @@ pub fn put_under(
     requires cond { cond.place < length draft.old.exprs }
     requires then_ { AreOwned draft.old then_.now }
     requires else_ { AreOwned draft.old else_.now }
-    ensures { OnOk result (PutUnder draft.old draft.new out.old out.new (term draft.old cond.place) then_.now else_.now) }
+    ensures { OnOk result (PutUnder draft.old draft.new out.old out.new (term draft.old cond.place) then_.now else_.now line) }
 {
     let groups = draft.grouped(alloc, then_, else_)?;
     for group in &groups {
@@ -173,7 +173,7 @@ pub fn put_under(
     Ok(())
 }
 
-/// Adds statements under a condition.
+/// Adds statements under a condition from a line.
 pub fn put_when(
     alloc: Global,
     draft: &mut PlainDraft,
@@ -185,7 +185,7 @@ pub fn put_when(
     requires out { AreOwned draft.old out.old }
     requires cond { cond.place < length draft.old.exprs }
     requires then_ { AreOwned draft.old then_.now }
-    ensures { OnOk result (PutUnder draft.old draft.new out.old out.new (term draft.old cond.place) then_.now []) }
+    ensures { OnOk result (PutUnder draft.old draft.new out.old out.new (term draft.old cond.place) then_.now [] line) }
 {
     put_under(alloc, draft, cond, then_, &[], line, out)
 }

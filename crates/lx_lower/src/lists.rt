@@ -4,7 +4,7 @@ ghost use Rattle.std.specs.Prelude.{◌≡◌, ◌++◌, ◌∷◌, ◌<◌, [],
 ghost use Rattle.std.specs.List.{flat_map};
 ghost use Rattle.lx_fhdl.specs.Designs.{block};
 ghost use Rattle.lx_lower.specs.Fixed.{chosen, chosen_lines, constant_in};
-ghost use Rattle.lx_lower.specs.Lines.{lines};
+ghost use Rattle.lx_lower.specs.Lines.{alone, lines};
 ghost use Rattle.lx_lower.specs.Lists.{AreBySignal, AreFolds, AreForSignals, IsFor, ListsPut, OnePut, fold_lines, folded_lists};
 ghost use Rattle.lx_lower.specs.Owned.{all_signals};
 
@@ -90,7 +90,7 @@ fn constant_list(
     line: u32,
 ) -> Result<List<StmtId>, NoMemory>
     requires { x.0 < length draft.old.signals }
-    ensures { IfOk result (λ list. OnePut draft.old draft.new x.0 list (constant_in draft.old x.0 number) (line ∷ [])) }
+    ensures { IfOk result (λ list. OnePut draft.old draft.new x.0 list (constant_in draft.old x.0 number) (alone line ∷ [])) }
 {
     let shape = draft.signal_shape(x);
     let value = push_constant(draft, number, shape)?;

@@ -2,7 +2,7 @@
 
 ghost use Rattle.std.specs.Prelude.{◌≡◌, [], length, IfOk};
 ghost use Rattle.lx_fhdl.specs.Designs.{stmts_of};
-ghost use Rattle.lx_lower.specs.Lists.{AreThere, CombPut, ListPut, ListsPut, PartsPut, folded_of, lists_of, split_of};
+ghost use Rattle.lx_lower.specs.Lists.{AreThere, ListPut, ListsPut, PartsPut, folded_lines_of, folded_of, lists_of, split_of};
 ghost use Rattle.lx_lower.specs.Puts.{lines_for};
 ghost use Rattle.lx_lower.specs.Ready.{IsReady};
 
@@ -53,7 +53,7 @@ pub fn lower_comb(
     draft: &mut PlainDraft,
 ) -> Result<List<StmtId>, NoMemory>
     requires { IsReady source.now draft.old [] }
-    ensures { IfOk result (λ list. CombPut draft.old draft.new list (folded_of source.now.design source.now.design.comb) (lines_for source.now.design source.now.design.comb)) }
+    ensures { IfOk result (λ list. ListPut draft.old draft.new list (folded_of source.now.design source.now.design.comb) (folded_lines_of source.now.design source.now.design.comb)) }
 {
     let design = source.design();
     let lists = split(alloc, source, draft, design.comb.as_slice())?;

@@ -38,7 +38,7 @@ impl<'a> Source<'a> {
     ghost use Rattle.lx_fhdl.specs.Below.{stmt_below, target_below};
     ghost use Rattle.lx_fhdl.specs.Designs.{stmt, target};
     ghost use Rattle.lx_fhdl.specs.Keeping.{StmtStands, TargetStands};
-    ghost use Rattle.lx_lower.specs.Lines.{lines_at};
+    ghost use Rattle.lx_lower.specs.Lines.{expr_shape, lines_at};
     ghost use Rattle.lx_lower.specs.Operands.{HasShape};
     ghost use Rattle.lx_lower.specs.Owned.{node_lines_of, target_of, tree_of};
     ghost use Rattle.lx_lower.specs.Sources.{IsLowered, IsRead};
@@ -85,6 +85,7 @@ impl<'a> Source<'a> {
         requires lowered { IsLowered self.now draft.now }
         requires place { id.place < length self.now.places }
         ensures shape { HasShape draft.now result }
+        ensures same { result.shape ≡ expr_shape self.now.design id.place }
         ensures tree { term draft.now result.id.place ≡ lower_term (shapes self.now.design) (term self.now.design id.place) }
     {
         let _draft = draft;

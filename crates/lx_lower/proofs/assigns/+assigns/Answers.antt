@@ -1,7 +1,8 @@
 use Rattle.std.proofs.Common.{rules, ◌∙◌, ◌<◌, [], length, refl, arith}
 use Rattle.lx_fhdl.specs.Below.{TargetId}
-use Rattle.lx_lower.proofs.Pieces.{items_done, items_lower, items_more, most_as, node_as, part_added, put_target, parts_done, parts_lower, parts_more, rest_as, ready_for, ready_shapes, stands_as, target_below_at, whole_added}
-use Rattle.lx_lower.proofs.Puts.{on_ok, owned_kept, some_start}
+use Rattle.lx_fhdl.specs.Designs.{target}
+use Rattle.lx_lower.proofs.Pieces.{items_done, items_lower, items_more, lone_item, most_as, node_as, several_items, part_added, put_target, parts_done, parts_lower, parts_more, rest_as, ready_for, ready_shapes, stands_as, target_below_at, whole_added}
+use Rattle.lx_lower.proofs.Puts.{on_ok, owned_kept, put_lines, some_lines, some_start}
 use Rattle.lx_lower.proofs.Sound.{grows_then, shape_kept, term_kept}
 use Rattle.lx_lower.proofs.assigns.+assigns.Goals as goal
 
@@ -49,7 +50,7 @@ put_assigns-returns-in-Pick t c =
     on_ok c.put_pick.result _ _ (λ p. put_target _ c.args.line _ same p) (rw c.as_slice-items.ensures at c.put_pick.ensures)
 
 pub put_items-loop-number-init : goal.put_items-loop-number-init
-put_items-loop-number-init t c = some_start _ _ _ _ c.requires.ready.owned
+put_items-loop-number-init t c = some_lines (several_items (target c.args.source.now.design) c.args.items.now c.args.line c.requires.several) (some_start _ _ _ _ c.requires.ready.owned)
 
 pub put_items-put_assigns-requires : goal.put_items-put_assigns-requires
 put_items-put_assigns-requires t c =

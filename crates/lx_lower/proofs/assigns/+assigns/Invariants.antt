@@ -2,7 +2,8 @@ use Rattle.std.proofs.Common.{◌+◌, ◌*◌, drop}
 use Rattle.lx_fhdl.specs.Designs.{shapes, target, term}
 use Rattle.lx_fhdl.specs.Stmts.{targets_at}
 use Rattle.lx_lowering.specs.Flat.{items_assigns, parts_assigns}
-use Rattle.lx_lower.specs.Lines.{targets_lines}
+use Rattle.lx_lower.specs.Lines.{targets_lines, under_each}
+use Rattle.lx_lower.specs.Puts.{items_lines}
 use Rattle.lx_lower.specs.Operands.{HasShape}
 use Rattle.lx_lower.specs.Owned.{PutSome}
 use Rattle.lx_lower.proofs.assigns.+assigns.Given as goal
@@ -33,5 +34,5 @@ invariant-put_items-loop-number l =
     PutSome l.initial.draft l.draft l.initial.out l.out
     (items_assigns (shapes l.source.design) 0 (targets_at (target l.source.design) l.items) (term l.initial.draft l.index.id.place) (term l.initial.draft l.value.id.place))
     (items_assigns (shapes l.source.design) l.number (targets_at (target l.source.design) (drop l.number l.items)) (term l.initial.draft l.index.id.place) (term l.initial.draft l.value.id.place))
-    (targets_lines (targets_at (target l.source.design) l.items) l.line)
-    (targets_lines (targets_at (target l.source.design) (drop l.number l.items)) l.line)
+    (items_lines (targets_at (target l.source.design) l.items) l.line)
+    (under_each l.line (targets_lines (targets_at (target l.source.design) (drop l.number l.items)) l.line))

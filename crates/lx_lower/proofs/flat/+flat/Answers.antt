@@ -1,6 +1,8 @@
-use Rattle.std.proofs.Common.{rules, ◌<◌, [], Option, None, length, take, ◌∷◌, sym, ap, ◌∙◌, arith, FitsSigned}
+use Rattle.std.proofs.Common.{rules, ◌<◌, true, [], Option, None, length, take, ◌∷◌, sym, ap, ◌∙◌, arith, FitsSigned}
 use Rattle.std.specs.Int.{w128}
 use Rattle.std.proofs.lemmas.Int.{to_z-of_z}
+use Rattle.lx_num.specs.declared.Shape.{Shape}
+use Rattle.lx_circuit.specs.Shapes.{shape_of}
 use Rattle.lx_circuit.specs.Terms.{Term}
 use Rattle.lx_fhdl.specs.Below.{StmtId}
 use Rattle.lx_fhdl.specs.Designs as designs
@@ -8,10 +10,10 @@ use Rattle.lx_fhdl.specs.Designs.{shapes, term}
 use Rattle.lx_fhdl.specs.Stmts.{arms_at}
 use Rattle.lx_lowering.specs.Flat.{assigns, flat, flat_arms, flat_block, otherwise}
 use Rattle.lx_lower.specs.Keys.{none_after, seen_keys}
-use Rattle.lx_lower.specs.Lines.{lines_at, lines_in}
+use Rattle.lx_lower.specs.Lines.{has_key, inside, lines_at, lines_in}
 use Rattle.lx_lower.specs.Ready.{LowerBranches}
-use Rattle.lx_lower.proofs.Flats.{after_first, arms_are, arms_done, arms_more, block_done, block_more, case_lower, case_stands, chain_done, chain_more, fails_bit, if_lower, if_stands, lone_branch, lone_put, no_items, no_none, node_lines_is, node_stmt_as, node_stmt_is, none_bit, otherwise_empty, several_put, some_none}
-use Rattle.lx_lower.proofs.Arms.{fresh_is, key_is}
+use Rattle.lx_lower.proofs.Flats.{after_first, arms_are, arms_done, arms_more, block_done, block_more, case_lower, case_stands, chain_done, chain_more, fails_bit, if_lower, if_stands, lone_branch, lone_put, no_items, no_none, node_lines_is, node_stmt_as, node_stmt_is, none_bit, only_item, otherwise_empty, put_both_under, put_branches, put_no_branch, put_one_branch, put_under, put_where, several_put, some_none}
+use Rattle.lx_lower.proofs.Arms.{fresh_is, key_is, no_key_there, some_key}
 use Rattle.lx_lower.proofs.Items.{arm_body_at, bodies_after, body_at, cond_at, conds_after, stmt_below_at}
 use Rattle.lx_lower.proofs.Pieces.{lowered_kept, own_shape_is, ready_for, ready_shapes}
 use Rattle.lx_lower.proofs.Puts.{holds_new, on_ok, owned_kept, put_after, put_is, put_lines, put_none, put_then, some_last, some_start, some_under}
@@ -34,7 +36,7 @@ pub put_block_when-returns : goal.put_block_when-returns
 put_block_when-returns t c =
     let own = rw c.new-own.ensures at c.in_ok-put_flat_block.ensures in
     let cond = term_kept c.args.cond.place own.grows c.requires.cond in
-    on_ok c.put_when.result _ _ (λ p. some_under c.args.cond.place _ own.grows c.requires.ready.owned (holds_new own) cond p) (rw c.as_slice.ensures at c.put_when.ensures)
+    on_ok c.put_when.result _ _ (λ p. put_under c.args.source.now.design c.args.line c.args.ids.now (some_under c.args.cond.place _ own.grows c.requires.ready.owned (holds_new own) cond p)) (rw c.as_slice.ensures at c.put_when.ensures)
 
 pub put_flat_block-loop-id-init : goal.put_flat_block-loop-id-init
 put_flat_block-loop-id-init t c = some_start _ _ _ _ c.requires.ready.owned
@@ -108,22 +110,22 @@ pub put_several-returns : goal.put_several-returns
 put_several-returns t c =
     let own = rw c.as_slice-body.ensures at c.in_ok-put_block_when.ensures in
     on_ok c.put_chain.result _ _
-    (λ p. several_put _ _ _ (lines_at c.args.source.now.design) c.args.branches.now c.index-branches-0.result _ _ c.lowered-cond.result.id.place c.in_ok-none.none.place c.requires.several c.index-branches-0.is c.lowered-cond.ensures.shape.there (ready_shapes c.requires.ready own.grows) c.lowered-cond.ensures.tree own c.in_ok-none.ensures p)
+    (λ p. put_branches c.args.source.now.design c.args.line c.args.branches.now c.args.rest.now (omega (arith, c.requires.several)) (several_put _ _ _ (λ i. inside true c.args.line (lines_at c.args.source.now.design i)) c.args.branches.now c.index-branches-0.result _ _ c.lowered-cond.result.id.place c.in_ok-none.none.place c.requires.several c.index-branches-0.is c.lowered-cond.ensures.shape.there (ready_shapes c.requires.ready own.grows) c.lowered-cond.ensures.tree own c.in_ok-none.ensures p))
     (rw (after_first c.args.branches.now) at c.put_chain.ensures)
 
 pub put_lone-put_flat_block-requires : goal.put_lone-put_flat_block-requires
 put_lone-put_flat_block-requires t c =
     let body = body_at c.args.bound (c.args.branch.now ∷ []) 0 c.args.branch.now c.requires.branch.below (omega arith) in
-    (omega arith, (rw c.new-then_.ensures (ready_for [] c.requires.ready (grows_same _) (search rules)), rw c.as_slice.ensures (record { within = c.requires.branch.within; below = body })))
+    (omega arith, (rw c.new-then_.ensures (ready_for [] c.requires.ready (grows_same _) (search rules)), rw c.as_slice-body.ensures (record { within = c.requires.branch.within; below = body })))
 
 pub put_lone-put_flat_block-requires-2 : goal.put_lone-put_flat_block-requires-2
 put_lone-put_flat_block-requires-2 t c = (omega arith, (rw c.new-else_.ensures (ready_for [] c.requires.ready c.in_ok-put_flat_block.ensures.grows (search rules)), c.requires.rest))
 
 pub put_lone-returns : goal.put_lone-returns
 put_lone-returns t c =
-    let own = rw (c.new-then_.ensures, c.as_slice.ensures) at c.in_ok-put_flat_block.ensures in
+    let own = rw (c.new-then_.ensures, c.as_slice-body.ensures) at c.in_ok-put_flat_block.ensures in
     let other = rw c.new-else_.ensures at c.in_ok-put_flat_block-2.ensures in
-    on_ok c.put_under.result _ _ (λ p. lone_put c.lowered-cond.result.id.place _ _ c.requires.ready.owned c.lowered-cond.ensures.tree own other p) (rw (c.as_slice-2.ensures, c.as_slice-3.ensures) at c.put_under.ensures)
+    on_ok c.put_under.result _ _ (λ p. put_both_under c.args.source.now.design c.args.line c.args.branch.now.body c.args.rest.now (lone_put c.lowered-cond.result.id.place _ _ c.requires.ready.owned c.lowered-cond.ensures.tree own other p)) (rw (c.as_slice.ensures, c.as_slice-2.ensures) at c.put_under.ensures)
 
 pub put_chain-loop-branch-init : goal.put_chain-loop-branch-init
 put_chain-loop-branch-init t c = (some_start _ _ _ _ c.requires.ready.owned, c.requires.none)
@@ -149,7 +151,7 @@ put_chain-loop-branch-preserved t c =
     let next = c.in_ok-none.ensures in
     let own = rw c.as_slice-body.ensures at c.in_ok-put_block_when.ensures in
     let step = grows_then here.grows own.grows in (
-      chain_more _ _ _ (lines_at c.args.source.now.design) c.args.branches.now c.loop-branch.branch-index c.branch-item.result _ _ c.loop-branch.none.place c.lowered-cond.result.id.place c.in_ok-here.here.place c.in_ok-none.none.place c.loop-branch-test.true c.branch-item.is
+      chain_more _ _ _ (λ i. inside true c.args.line (lines_at c.args.source.now.design i)) c.args.branches.now c.loop-branch.branch-index c.branch-item.result _ _ c.loop-branch.none.place c.lowered-cond.result.id.place c.in_ok-here.here.place c.in_ok-none.none.place c.loop-branch-test.true c.branch-item.is
           (ready_shapes c.requires.ready so.grows) (ready_shapes c.requires.ready (grows_then so.grows step)) c.lowered-cond.ensures.tree c.lowered-cond.ensures.shape.there bit.there so here own next,
       none_bit _ (bit_kept step bit) next,
     )
@@ -176,17 +178,17 @@ put_arms-loop-number-preserved t c =
     let own = rw c.as_slice-body.ensures at c.in_ok-put_block_when.ensures in
     let on = term_kept c.args.on.id.place so.grows c.requires.on.there in
     let is = key_is _ _ _ _ _ _ (own_shape_is c.requires.ready c.requires.on) (fresh_is _ _ _ _ _ _ c.loop-number-test.true c.index-arms-number.is c.requires.fresh c.loop-number-test.true) in
-    arms_more _ (designs.stmt c.args.source.now.design) (lines_at c.args.source.now.design) c.args.arms.now c.loop-number.number c.index-arms-number.result _ c.args.on.id.place c.in_ok-here.here.place _ c.loop-number-test.true c.index-arms-number.is (ready_shapes c.requires.ready so.grows) on is so here own
+    arms_more _ (designs.stmt c.args.source.now.design) (λ i. inside true c.args.line (lines_at c.args.source.now.design i)) c.args.arms.now c.loop-number.number c.index-arms-number.result _ c.args.on.id.place c.in_ok-here.here.place _ c.loop-number-test.true c.index-arms-number.is (ready_shapes c.requires.ready so.grows) on is so here own
 
 pub put_arms-returns : goal.put_arms-returns
-put_arms-returns t c = arms_done _ (designs.stmt c.args.source.now.design) (lines_at c.args.source.now.design) c.args.arms.now c.loop-number.number (term c.args.draft.now c.args.on.id.place) (seen_keys (take c.loop-number.number c.args.arms.now)) (omega arith) c.loop-number.invariant
+put_arms-returns t c = arms_done _ (designs.stmt c.args.source.now.design) (λ i. inside true c.args.line (lines_at c.args.source.now.design i)) c.args.arms.now c.loop-number.number (term c.args.draft.now c.args.on.id.place) (seen_keys (take c.loop-number.number c.args.arms.now)) (omega arith) c.loop-number.invariant
 
 pub put_case-lowered-on-requires : goal.put_case-lowered-on-requires
 put_case-lowered-on-requires t c = record { lowered = c.requires.ready.lowered; place = c.requires.on }
 
 pub put_otherwise-returns-then-is_empty : goal.put_otherwise-returns-then-is_empty
 put_otherwise-returns-then-is_empty t c = let empty = no_items _ _ c.is_empty.ensures c.if-is_empty.true in
-    put_lines (λ k. sym (ap (lines_in (lines_at c.args.source.now.design k)) empty)) (put_is (otherwise_empty _ _ _ c.args.rest.now empty) (put_none c.args.draft.now _ c.requires.ready.owned))
+    put_lines (λ k. sym (ap (lines_in (inside (has_key (shape_of (shapes c.args.source.now.design) (term c.args.draft.now c.args.on.id.place)) c.args.arms.now) c.args.line (lines_at c.args.source.now.design k))) empty)) (put_is (otherwise_empty _ _ _ c.args.rest.now empty) (put_none c.args.draft.now _ c.requires.ready.owned))
 
 pub put_otherwise-put_block_when-requires : goal.put_otherwise-put_block_when-requires
 put_otherwise-put_block_when-requires t c =
@@ -207,8 +209,8 @@ put_lone-put_under-requires t c =
     record {
       out = owned_kept c.args.out.now (grows_then own.grows other.grows) c.requires.ready.owned;
       cond = c.lowered-cond.ensures.shape.there;
-      then_ = rw c.as_slice-2.ensures (owned_kept _ other.grows own.owned);
-      else_ = rw c.as_slice-3.ensures other.owned;
+      then_ = rw c.as_slice.ensures (owned_kept _ other.grows own.owned);
+      else_ = rw c.as_slice-2.ensures other.owned;
     }
 
 pub put_chain-push_and_fails-requires : goal.put_chain-push_and_fails-requires
@@ -233,23 +235,28 @@ put_case-returns t c =
     let r = flat_block s (designs.block c.args.source.now.design c.args.rest.now) in
     let after = ap (λ (o : Term). otherwise (none_after s o [] None c.args.arms.now) r) on in
     let same = arms_are s h (term c.args.draft.now c.lowered-on.result.id.place) [] None c.args.arms.now r ∙ ap (λ (o : Term). flat_arms s o [] None (arms_at h c.args.arms.now) r) c.lowered-on.ensures.tree in
-    on_ok c.put_otherwise.result _ _ (λ p. put_is same (put_then own (put_is after p))) c.put_otherwise.ensures
+    let key = ap (λ (o : Term). has_key (shape_of s o) c.args.arms.now) on ∙ ap (λ (a : Shape). has_key a c.args.arms.now) (own_shape_is c.requires.ready c.lowered-on.ensures.shape ∙ c.lowered-on.ensures.same) in
+    on_ok c.put_otherwise.result _ _ (λ p. put_is same (put_then own (put_is after (put_where c.args.source.now.design c.args.line c.args.rest.now key p)))) c.put_otherwise.ensures
 
 pub put_otherwise-returns-in-Some : goal.put_otherwise-returns-in-Some
 put_otherwise-returns-in-Some t c =
     let no = c.in_ok-none.ensures in
     let s = shapes c.args.source.now.design in
     let r = flat_block s (designs.block c.args.source.now.design c.args.rest.now) in
-    let same = ap (λ (o : Option Term). otherwise o r) ((some_none c.in-Some.none no c.in-Some.is).1 ∙ ap (λ z. none_after z (term c.args.draft.now c.args.on.id.place) [] None c.args.arms.now) (ready_shapes c.requires.ready (grows_same _))) in
-    on_ok c.put_block_when.result _ _ (λ p. put_after no.grows c.requires.ready.owned (put_is same p)) c.put_block_when.ensures
+    let after = (some_none c.in-Some.none no c.in-Some.is).1 ∙ ap (λ z. none_after z (term c.args.draft.now c.args.on.id.place) [] None c.args.arms.now) (ready_shapes c.requires.ready (grows_same _)) in
+    let same = ap (λ (o : Option Term). otherwise o r) after in
+    let key = some_key s (term c.args.draft.now c.args.on.id.place) c.args.arms.now _ after in
+    on_ok c.put_block_when.result _ _ (λ p. put_after no.grows c.requires.ready.owned (put_is same (put_where c.args.source.now.design c.args.line c.args.rest.now (sym key) p))) c.put_block_when.ensures
 
 pub put_otherwise-returns-in-None : goal.put_otherwise-returns-in-None
 put_otherwise-returns-in-None t c =
     let no = c.in_ok-none.ensures in
     let s = shapes c.args.source.now.design in
     let r = flat_block s (designs.block c.args.source.now.design c.args.rest.now) in
-    let same = ap (λ (o : Option Term). otherwise o r) (no_none no c.in-None.is ∙ ap (λ z. none_after z (term c.args.draft.now c.args.on.id.place) [] None c.args.arms.now) (ready_shapes c.requires.ready (grows_same _))) in
-    on_ok c.put_flat_block.result _ _ (λ p. put_after no.grows c.requires.ready.owned (put_is same p)) c.put_flat_block.ensures
+    let after = no_none no c.in-None.is ∙ ap (λ z. none_after z (term c.args.draft.now c.args.on.id.place) [] None c.args.arms.now) (ready_shapes c.requires.ready (grows_same _)) in
+    let same = ap (λ (o : Option Term). otherwise o r) after in
+    let key = no_key_there s (term c.args.draft.now c.args.on.id.place) c.args.arms.now after in
+    on_ok c.put_flat_block.result _ _ (λ p. put_after no.grows c.requires.ready.owned (put_is same (put_where c.args.source.now.design c.args.line c.args.rest.now (sym key) p))) c.put_flat_block.ensures
 
 pub put_chain-returns : goal.put_chain-returns
-put_chain-returns t c = on_ok c.put_block_when-2.result _ _ (λ p. some_last (chain_done _ _ _ (lines_at c.args.source.now.design) c.args.branches.now c.loop-branch.branch-index _ _ _ (omega arith) c.loop-branch.invariant.0) p) c.put_block_when-2.ensures
+put_chain-returns t c = on_ok c.put_block_when-2.result _ _ (λ p. some_last (chain_done _ _ _ (λ i. inside true c.args.line (lines_at c.args.source.now.design i)) c.args.branches.now c.loop-branch.branch-index _ _ _ (omega arith) c.loop-branch.invariant.0) p) c.put_block_when-2.ensures

@@ -1,4 +1,4 @@
-use Rattle.std.proofs.Common.{◌+◌, ◌*◌, [], drop, take}
+use Rattle.std.proofs.Common.{◌+◌, ◌*◌, true, [], drop, take}
 use Rattle.lx_fhdl.specs.Designs as designs
 use Rattle.lx_fhdl.specs.Designs.{block, shapes, stmt, term}
 use Rattle.lx_fhdl.specs.Stmts.{branches_at}
@@ -7,7 +7,7 @@ use Rattle.lx_lower.specs.Keys.{arms_block, seen_keys}
 use Rattle.lx_lower.specs.Owned.{PutSome}
 use Rattle.lx_lower.specs.Lines.{both_lines}
 use Rattle.lx_lower.specs.Plain.{IsBit}
-use Rattle.lx_lower.specs.Puts.{arm_lines_for, branch_lines_for, lines_for}
+use Rattle.lx_lower.specs.Puts.{arms_inside, branches_inside, lines_for, lines_inside}
 use Rattle.lx_lower.proofs.flat.+flat.Given as goal
 
 abbrev pub decreases-put_flat : goal.decreases-put_flat
@@ -53,8 +53,8 @@ invariant-put_chain-loop-branch l =
     PutSome l.initial.draft l.draft l.initial.out l.out
     (flat_chain (shapes l.source.design) (term l.initial.draft l.initial.none.place) (branches_at (designs.term l.source.design) (stmt l.source.design) l.branches) (flat_block (shapes l.source.design) (block l.source.design l.rest)))
     (flat_chain (shapes l.source.design) (term l.draft l.none.place) (branches_at (designs.term l.source.design) (stmt l.source.design) (drop l.branch-index l.branches)) (flat_block (shapes l.source.design) (block l.source.design l.rest)))
-    (both_lines (branch_lines_for l.source.design l.branches) (lines_for l.source.design l.rest))
-    (both_lines (branch_lines_for l.source.design (drop l.branch-index l.branches)) (lines_for l.source.design l.rest))
+    (both_lines (branches_inside l.source.design true l.line l.branches) (lines_inside l.source.design true l.line l.rest))
+    (both_lines (branches_inside l.source.design true l.line (drop l.branch-index l.branches)) (lines_inside l.source.design true l.line l.rest))
     × IsBit l.draft l.none.place
 
 abbrev pub invariant-put_arms-loop-number : goal.invariant-put_arms-loop-number
@@ -62,5 +62,5 @@ invariant-put_arms-loop-number l =
     PutSome l.initial.draft l.draft l.initial.out l.out
     (arms_block (shapes l.source.design) (stmt l.source.design) (term l.initial.draft l.on.id.place) [] l.arms)
     (arms_block (shapes l.source.design) (stmt l.source.design) (term l.initial.draft l.on.id.place) (seen_keys (take l.number l.arms)) (drop l.number l.arms))
-    (arm_lines_for l.source.design l.arms)
-    (arm_lines_for l.source.design (drop l.number l.arms))
+    (arms_inside l.source.design true l.line l.arms)
+    (arms_inside l.source.design true l.line (drop l.number l.arms))

@@ -5,7 +5,7 @@ use Rattle.lx_lower.proofs.fold.+first.Goals as goal
 
 pub first_line-returns-in-If : goal.first_line-returns-in-If
 first_line-returns-in-If t c =
-    then_first _ _ _ _ _ _ _ _ _ _ _ _ (c.stmt.ensures.lines c.args.x.0) c.in-If.is c.as_slice.ensures c.in-len1-up.len_at_least c.branch-item.is c.as_slice-in-If.ensures c.first_line_in.ensures
+    then_first _ c.args.x.0 _ _ _ _ _ _ _ _ _ _ (c.stmt.ensures.lines c.args.x.0) c.in-If.is c.as_slice.ensures c.in-len1-up.len_at_least c.branch-item.is c.as_slice-in-If.ensures c.first_line_in.ensures
 
 pub first_line-returns-else-as_slice-lt1 : goal.first_line-returns-else-as_slice-lt1
 first_line-returns-else-as_slice-lt1 t c =

@@ -5,7 +5,7 @@ use Rattle.lx_lower.proofs.groups.put_group.Goals as goal
 use Rattle.lx_lower.proofs.groups.put_group.Goals.{else-is_empty-via-then-is_empty+else-is_empty-2, else-is_empty-via-else-is_empty}
 
 pub returns-then-is_empty-2 : goal.returns-then-is_empty-2
-returns-then-is_empty-2 c = group_none _ _ _ _ c.requires.out (c.is_empty.ensures.0 (search c.if-is_empty.true)) (c.is_empty-then-is_empty.ensures.0 (search c.if-is_empty-2.true))
+returns-then-is_empty-2 c = group_none _ _ _ _ c.args.line c.requires.out (c.is_empty.ensures.0 (search c.if-is_empty.true)) (c.is_empty-then-is_empty.ensures.0 (search c.if-is_empty-2.true))
 
 pub returns : goal.returns
 returns c =
