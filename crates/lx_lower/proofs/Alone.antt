@@ -1,5 +1,5 @@
 -- Statements for one signal have lines for this signal alone, and at least one.
-use Rattle.std.proofs.Common.{◌≡◌, ℕ, ◌<◌, ◌≤◌, Bool, true, false, ◌&&◌, nat_lt, nat_eq, cond, List, [], ◌∷◌, ◌++◌, length, get_or, refl, sym, ap, ◌∙◌, subst, arith, ne_eqb}
+use Rattle.std.proofs.Common.{◌≡◌, ℕ, ◌<◌, ◌≤◌, Bool, true, false, ◌&&◌, nat_lt, nat_eq, List, [], ◌∷◌, ◌++◌, length, get_or, refl, sym, ap, ◌∙◌, arith, ne_eqb}
 use Rattle.std.specs.Prelude.{Some}
 use Rattle.std.proofs.lemmas.Bool.{and_parts, ltb-true}
 use Rattle.lx_arena.proofs.Places.{by_places, lower_at}
@@ -7,7 +7,7 @@ use Rattle.lx_circuit.specs.Statements as tree
 use Rattle.lx_fhdl.specs.Below.{StmtId, stmt_below, all_stmts_below, all_branches_below}
 use Rattle.lx_fhdl.specs.Designs as design
 use Rattle.lx_fhdl.specs.Drafts.{DraftKeeps}
-use Rattle.lx_fhdl.specs.Lowered.{are_for, branches_are_for, is_for, is_lone, is_plain_target}
+use Rattle.lx_fhdl.specs.Lowered.{are_for, branches_are_for, is_for, is_lone}
 use Rattle.lx_fhdl.specs.Stmts.{branches_at, node_stmt}
 use Rattle.lx_fhdl.specs.declared.design.Design.{Design}
 use Rattle.lx_fhdl.specs.declared.stmts.Branch.{Branch}

@@ -9,7 +9,7 @@ use Rattle.lx_num.specs.declared.Shape.{Shape}
 use Rattle.lx_circuit.specs.Circuit.{Made, nothing}
 use Rattle.lx_circuit.specs.Shapes.{Shapes}
 use Rattle.lx_circuit.specs.Statements as tree
-use Rattle.lx_circuit.specs.Statements.{Block, Done}
+use Rattle.lx_circuit.specs.Statements.{Block}
 use Rattle.lx_circuit.specs.Terms.{Constant}
 use Rattle.lx_fhdl.specs.Below.{ExprId, StmtId, TargetId, all_stmts_below}
 use Rattle.lx_fhdl.specs.Designs as design

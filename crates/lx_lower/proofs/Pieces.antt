@@ -6,7 +6,7 @@ use Rattle.std.proofs.lemmas.List.{append-nil}
 use Rattle.lx_fhdl.specs.declared.exprs.Expr.{Expr}
 use Rattle.lx_circuit.specs.Shapes.{Shapes, shape_of}
 use Rattle.lx_circuit.specs.Statements as tree
-use Rattle.lx_circuit.specs.Statements.{Block, Done, sum_bits, target_bits, NoTarget, MoreTargets}
+use Rattle.lx_circuit.specs.Statements.{Block, sum_bits, target_bits}
 use Rattle.lx_circuit.specs.Terms.{Term}
 use Rattle.lx_fhdl.specs.Below.{ExprId, TargetId, all_targets_below, target_below}
 use Rattle.lx_fhdl.specs.Designs as design

@@ -1,8 +1,8 @@
 use Rattle.std.proofs.Common.{rules, ◌∙◌, ◌<◌, [], length, refl, arith}
 use Rattle.lx_fhdl.specs.Below.{TargetId}
 use Rattle.lx_fhdl.specs.Designs.{target}
-use Rattle.lx_lower.proofs.Pieces.{items_done, items_lower, items_more, lone_item, most_as, node_as, several_items, part_added, put_target, parts_done, parts_lower, parts_more, rest_as, ready_for, ready_shapes, stands_as, target_below_at, whole_added}
-use Rattle.lx_lower.proofs.Puts.{on_ok, owned_kept, put_lines, some_lines, some_start}
+use Rattle.lx_lower.proofs.Pieces.{items_done, items_lower, items_more, most_as, node_as, several_items, part_added, put_target, parts_done, parts_lower, parts_more, rest_as, ready_for, ready_shapes, stands_as, target_below_at, whole_added}
+use Rattle.lx_lower.proofs.Puts.{on_ok, owned_kept, some_lines, some_start}
 use Rattle.lx_lower.proofs.Sound.{grows_then, shape_kept, term_kept}
 use Rattle.lx_lower.proofs.assigns.+assigns.Goals as goal
 

@@ -12,7 +12,7 @@ use Rattle.lx_lowering.specs.Flat.{assigns, flat, flat_arms, flat_block, otherwi
 use Rattle.lx_lower.specs.Keys.{none_after, seen_keys}
 use Rattle.lx_lower.specs.Lines.{has_key, inside, lines_at, lines_in}
 use Rattle.lx_lower.specs.Ready.{LowerBranches}
-use Rattle.lx_lower.proofs.Flats.{after_first, arms_are, arms_done, arms_more, block_done, block_more, case_lower, case_stands, chain_done, chain_more, fails_bit, if_lower, if_stands, lone_branch, lone_put, no_items, no_none, node_lines_is, node_stmt_as, node_stmt_is, none_bit, only_item, otherwise_empty, put_both_under, put_branches, put_no_branch, put_one_branch, put_under, put_where, several_put, some_none}
+use Rattle.lx_lower.proofs.Flats.{after_first, arms_are, arms_done, arms_more, block_done, block_more, case_lower, case_stands, chain_done, chain_more, fails_bit, if_lower, if_stands, lone_branch, lone_put, no_items, no_none, node_lines_is, node_stmt_as, node_stmt_is, none_bit, otherwise_empty, put_both_under, put_branches, put_under, put_where, several_put, some_none}
 use Rattle.lx_lower.proofs.Arms.{fresh_is, key_is, no_key_there, some_key}
 use Rattle.lx_lower.proofs.Items.{arm_body_at, bodies_after, body_at, cond_at, conds_after, stmt_below_at}
 use Rattle.lx_lower.proofs.Pieces.{lowered_kept, own_shape_is, ready_for, ready_shapes}

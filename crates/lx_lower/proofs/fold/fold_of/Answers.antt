@@ -1,5 +1,5 @@
 use Rattle.std.proofs.Common.{arith, rules}
-use Rattle.lx_lower.proofs.Folding.{line_folded, none_folded, some_done, fold_number}
+use Rattle.lx_lower.proofs.Folding.{line_folded, some_done, fold_number}
 use Rattle.lx_lower.proofs.fold.fold_of.Goals as goal
 
 pub returns-clause-number : goal.returns-clause-number
