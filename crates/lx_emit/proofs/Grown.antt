@@ -1,57 +1,29 @@
--- Both arenas grow: the trees of statements stay.
+-- Nodes grow: the trees of statements stay.
 use Rattle.std.proofs.Common.{◌≡◌, ℕ, ◌+◌, ◌<◌, ◌≤◌, Bool, true, ◌&&◌, List, [], ◌∷◌, ◌++◌, length, get_or, take, nat_lt, append_assoc, add-one, refl, ap, subst, ◌∙◌, arith, ltb-true, lt-ltb}
 use Rattle.std.specs.Prelude.{Option, Some, None, Result, IfOk, IsTrue}
 use Rattle.std.proofs.Math.Seq.{take-suc}
-use Rattle.lx_arena.specs.Lower.{EachLower}
-use Rattle.lx_arena.proofs.Folds.{grows_not}
 use Rattle.lx_vtext.specs.Tree as tree
-use Rattle.lx_vtree.specs.declared.nodes.VExpr.{VExpr}
-use Rattle.lx_vtree.specs.declared.nodes.VStmt.{VStmt}
 use Rattle.lx_vtree.specs.declared.nodes.VStmt.TheVariants as node
 use Rattle.lx_vtree.specs.declared.nodes.VTarget.{VTarget}
 use Rattle.lx_vtree.specs.Below.{Ref}
-use Rattle.lx_vtree.specs.Trees.{tree_at}
-use Rattle.lx_vtree.specs.Stmts.{StmtRef, plant_block, plant_else, stmt_at, are_stmts_below, is_else_below, is_stmt_below, StmtsPlaced}
-use Rattle.lx_vtree.specs.Growth.{Grows, AddedStmt}
+use Rattle.lx_vtree.specs.NodeLists.{NodeLists, expr_tree, stmt_tree}
+use Rattle.lx_vtree.specs.Stmts.{StmtRef, plant_block, plant_else, are_stmts_below, is_else_below}
+use Rattle.lx_vtree.specs.Growth.{GrowsExprs, Grows, PutExpr, PutStmt, AddedStmt}
 use Rattle.lx_vtree.proofs.Exprs.{both}
-use Rattle.lx_vtree.proofs.Stmts.{stmts_stay, stmts_wider}
+use Rattle.lx_vtree.proofs.Grown.{by_exprs, grows_then}
 use Rattle.lx_fhdl.specs.Below.{StmtId}
 use Rattle.lx_emission.specs.Texts.{block_onto}
-use Rattle.lx_emit.specs.Tables.{Put}
-use Rattle.lx_emit.specs.Puts.{IsTarget, GrowsBoth, PutStmt, PutBlock, PutElse, PutStmts, trees_of, texts_of}
-use Rattle.lx_emit.proofs.Puts.{grows_more}
+use Rattle.lx_emit.specs.Puts.{IsTarget, PutBlock, PutElse, PutStmts, trees_of, texts_of}
 
-pub put_stmt_ok : {E : Type 0} (r : Result StmtRef E) (e0 e1 : List VExpr) (s0 s1 : List VStmt) (t u : tree.VStmt) → t ≡ u → IfOk r (λ i. PutStmt e0 e1 s0 s1 i.place t) → IfOk r (λ i. PutStmt e0 e1 s0 s1 i.place u)
-put_stmt_ok r e0 e1 s0 s1 t u e h = subst (λ (x : tree.VStmt). IfOk r (λ i. PutStmt e0 e1 s0 s1 i.place x)) e h
+pub put_stmt_ok : {E : Type 0} (r : Result StmtRef E) (n0 n1 : NodeLists) (t u : tree.VStmt) → t ≡ u → IfOk r (λ i. PutStmt n0 n1 i.place t) → IfOk r (λ i. PutStmt n0 n1 i.place u)
+put_stmt_ok r n0 n1 t u e h = subst (λ (x : tree.VStmt). IfOk r (λ i. PutStmt n0 n1 i.place x)) e h
 
-pub grows_none : (e : List VExpr) → Grows e e
-grows_none e = grows_not tree_at e
-
-pub both_none : (e : List VExpr) (s : List VStmt) → StmtsPlaced (length e) s → GrowsBoth e e s s
-both_none e s p = record { exprs = grows_none e; longer = omega arith; stays = λ id l. refl; placed = p }
-
-pub both_more : (e0 e1 e2 : List VExpr) (s0 s1 s2 : List VStmt) → GrowsBoth e0 e1 s0 s1 → GrowsBoth e1 e2 s1 s2 → GrowsBoth e0 e2 s0 s2
-both_more e0 e1 e2 s0 s1 s2 g h = record {
-  exprs = grows_more e0 e1 e2 g.exprs h.exprs;
-  longer = omega (arith, g.longer, h.longer);
-  stays = λ id l. h.stays id (omega (arith, g.longer)) ∙ g.stays id l;
-  placed = h.placed;
-}
-
--- more expressions
-pub by_exprs : (e0 e1 : List VExpr) (s : List VStmt) → EachLower is_stmt_below s → StmtsPlaced (length e0) s → Grows e0 e1 → GrowsBoth e0 e1 s s
-by_exprs e0 e1 s low p g = record { exprs = g; longer = omega arith; stays = λ id l. stmts_stay e0 e1 s id low p g; placed = stmts_wider (length e0) (length e1) s g.longer p }
-
--- a statement more
-pub by_stmt : (e : List VExpr) (s0 s1 : List VStmt) (i : ℕ) (x : VStmt) → AddedStmt (tree_at e) s0 s1 i x → StmtsPlaced (length e) s1 → GrowsBoth e e s0 s1
-by_stmt e s0 s1 i x a p = record { exprs = grows_none e; longer = a.grows.longer; stays = a.grows.trees; placed = p }
-
-pub assign_put : (e0 e1 : List VExpr) (s0 s1 : List VStmt) (v : Ref) (t : tree.VExpr) (target : VTarget) (u : tree.VTarget) (blocking : Bool) (i : ℕ) → EachLower is_stmt_below s0 → StmtsPlaced (length e0) s0
-    → Put e0 e1 v.place t → IsTarget target u → AddedStmt (tree_at e1) s0 s1 i (node.Assign target blocking v) → StmtsPlaced (length e1) s1 → PutStmt e0 e1 s0 s1 i (tree.Assign u blocking t)
-assign_put e0 e1 s0 s1 v t target u blocking i low p put is a q = record {
-  grows = both_more e0 e1 e1 s0 s0 s1 (by_exprs e0 e1 s0 low p put.grows) (by_stmt e1 s0 s1 i (node.Assign target blocking v) a q);
+pub assign_put : (n0 n1 n2 : NodeLists) (v : Ref) (t : tree.VExpr) (target : VTarget) (u : tree.VTarget) (blocking : Bool) (i : ℕ)
+    → PutExpr n0 n1 v.place t → IsTarget target u → AddedStmt n1 n2 i (node.Assign target blocking v) → PutStmt n0 n2 i (tree.Assign u blocking t)
+assign_put n0 n1 n2 v t target u blocking i put is a = record {
+  grows = grows_then n0 n1 n2 (by_exprs n0 n1 put.grows) a.grows;
   within = a.within;
-  tree = a.is ∙ ap (λ (x : tree.VTarget). tree.Assign x blocking (tree_at e1 v.place)) (is.tree (tree_at e1)) ∙ ap (tree.Assign u blocking) put.is;
+  is = a.is ∙ ap (λ (x : tree.VTarget). tree.Assign x blocking (expr_tree n1 v.place)) (is.tree (expr_tree n1)) ∙ ap (tree.Assign u blocking) put.is;
 }
 
 -- ---- blocks
@@ -76,31 +48,37 @@ below_more [] i n h l = rw (lt-ltb i.place n l) refl
 below_more (x ∷ xs) i n h l = let p = both (nat_lt x.place n) (are_stmts_below xs n) h in rw (p.0, below_more xs i n p.1 l) refl
 
 -- a block that was put stays
-pub kept_block : (e0 e1 e2 : List VExpr) (s0 s1 s2 : List VStmt) (ids : List StmtRef) (b : tree.VBlock) → PutBlock e0 e1 s0 s1 ids b → GrowsBoth e1 e2 s1 s2 → PutBlock e0 e2 s0 s2 ids b
-kept_block e0 e1 e2 s0 s1 s2 ids b p g = record {
-  grows = both_more e0 e1 e2 s0 s1 s2 p.grows g;
-  within = below_wider ids (length s1) (length s2) p.within g.longer;
-  tree = block_stays (stmt_at (tree_at e1) s1) (stmt_at (tree_at e2) s2) (length s1) ids g.stays p.within ∙ p.tree;
+pub kept_block : (n0 n1 n2 : NodeLists) (ids : List StmtRef) (b : tree.VBlock) → PutBlock n0 n1 ids b → Grows n1 n2 → PutBlock n0 n2 ids b
+kept_block n0 n1 n2 ids b p g = record {
+  grows = grows_then n0 n1 n2 p.grows g;
+  within = below_wider ids (length n1.stmts) (length n2.stmts) p.within g.longer;
+  tree = block_stays (stmt_tree n1) (stmt_tree n2) (length n1.stmts) ids g.stays p.within ∙ p.tree;
 }
 
 -- the parts of a condition stand
-pub parts_below : (e0 e1 e2 : List VExpr) (s0 s1 s2 : List VStmt) (so : List StmtRef) (other : Option (List StmtRef)) (b : tree.VBlock) (r : tree.VElse) → PutBlock e0 e1 s0 s1 so b → PutElse e1 e2 s1 s2 other r
-    → IsTrue (are_stmts_below so (length s2) && is_else_below other (length s2))
-parts_below e0 e1 e2 s0 s1 s2 so other b r p q = rw (below_wider so (length s1) (length s2) p.within q.grows.longer, q.within) refl
+pub parts_below : (n0 n1 n2 n3 : NodeLists) (so : List StmtRef) (other : Option (List StmtRef)) (b : tree.VBlock) (r : tree.VElse) → PutBlock n0 n1 so b → PutElse n1 n2 other r → GrowsExprs n2 n3
+    → IsTrue (are_stmts_below so (length n3.stmts) && is_else_below other (length n3.stmts))
+parts_below n0 n1 n2 n3 so other b r p q g = rw (g.stmts, below_wider so (length n1.stmts) (length n2.stmts) p.within q.grows.longer, q.within) refl
 
-pub when_put : (e0 e1 e2 e3 : List VExpr) (s0 s1 s2 s3 : List VStmt) (so : List StmtRef) (other : Option (List StmtRef)) (c : Ref) (b : tree.VBlock) (r : tree.VElse) (t : tree.VExpr) (i : ℕ)
-    → PutBlock e0 e1 s0 s1 so b → PutElse e1 e2 s1 s2 other r → EachLower is_stmt_below s2 → Put e2 e3 c.place t → AddedStmt (tree_at e3) s2 s3 i (node.When c so other) → StmtsPlaced (length e3) s3 → PutStmt e0 e3 s0 s3 i (tree.When t b r)
-when_put e0 e1 e2 e3 s0 s1 s2 s3 so other c b r t i p q low put a placed =
-    let more = by_exprs e2 e3 s2 low q.grows.placed put.grows in
-    let start = kept_block e0 e1 e3 s0 s1 s2 so b p (both_more e1 e2 e3 s1 s2 s2 q.grows more) in
-    let rest = else_stays (stmt_at (tree_at e2) s2) (stmt_at (tree_at e3) s2) (length s2) other more.stays q.within ∙ q.tree in
+-- and so do those of one without an `else`
+pub so_below : (n1 n2 : NodeLists) (so : List StmtRef) → are_stmts_below so (length n1.stmts) ≡ true → GrowsExprs n1 n2 → IsTrue (are_stmts_below so (length n2.stmts) && true)
+so_below n1 n2 so h g = rw (g.stmts, h) refl
+
+pub lone_below : (n0 n1 n2 : NodeLists) (lone : StmtRef) (so : List StmtRef) (t : tree.VStmt) → PutStmt n0 n1 lone.place t → so ≡ lone ∷ [] → GrowsExprs n1 n2 → IsTrue (are_stmts_below so (length n2.stmts) && true)
+lone_below n0 n1 n2 lone so t p e g = rw (g.stmts, e, lt-ltb lone.place (length n1.stmts) p.within) refl
+
+pub when_put : (n0 n1 n2 n3 n4 : NodeLists) (so : List StmtRef) (other : Option (List StmtRef)) (c : Ref) (b : tree.VBlock) (r : tree.VElse) (t : tree.VExpr) (i : ℕ)
+    → PutBlock n0 n1 so b → PutElse n1 n2 other r → PutExpr n2 n3 c.place t → AddedStmt n3 n4 i (node.When c so other) → PutStmt n0 n4 i (tree.When t b r)
+when_put n0 n1 n2 n3 n4 so other c b r t i p q put a =
+    let start = kept_block n0 n1 n3 so b p (grows_then n1 n2 n3 q.grows (by_exprs n2 n3 put.grows)) in
+    let rest = else_stays (stmt_tree n2) (stmt_tree n3) (length n2.stmts) other (λ k l. put.grows.stays k) q.within ∙ q.tree in
     record {
-      grows = both_more e0 e3 e3 s0 s2 s3 start.grows (by_stmt e3 s2 s3 i (node.When c so other) a placed);
+      grows = grows_then n0 n3 n4 start.grows a.grows;
       within = a.within;
-      tree =
+      is =
           a.is
-          ∙ ap (λ (x : tree.VExpr). tree.When x (plant_block (stmt_at (tree_at e3) s2) so) (plant_else (stmt_at (tree_at e3) s2) other)) put.is
-          ∙ ap (λ (x : tree.VBlock). tree.When t x (plant_else (stmt_at (tree_at e3) s2) other)) start.tree
+          ∙ ap (λ (x : tree.VExpr). tree.When x (plant_block (stmt_tree n3) so) (plant_else (stmt_tree n3) other)) put.is
+          ∙ ap (λ (x : tree.VBlock). tree.When t x (plant_else (stmt_tree n3) other)) start.tree
           ∙ ap (tree.When t b) rest;
     }
 
@@ -114,16 +92,16 @@ trees_then : (g : ℕ → tree.VStmt) (ids : List StmtRef) (i : StmtRef) → tre
 trees_then g [] i = refl
 trees_then g (x ∷ xs) i = ap (λ (ts : List tree.VStmt). g x.place ∷ ts) (trees_then g xs i)
 
-pub stmts_more : (e0 e1 e2 : List VExpr) (s0 s1 s2 : List VStmt) (before after : List StmtRef) (ts : List tree.VStmt) (i : StmtRef) (t : tree.VStmt) → PutStmts e0 e1 s0 s1 before after ts → PutStmt e1 e2 s1 s2 i.place t
-    → PutStmts e0 e2 s0 s2 before (after ++ i ∷ []) (ts ++ t ∷ [])
-stmts_more e0 e1 e2 s0 s1 s2 before after ts i t p q = record {
-  grows = both_more e0 e1 e2 s0 s1 s2 p.grows q.grows;
-  within = below_more after i (length s2) (below_wider after (length s1) (length s2) p.within q.grows.longer) q.within;
+pub stmts_more : (n0 n1 n2 : NodeLists) (before after : List StmtRef) (ts : List tree.VStmt) (i : StmtRef) (t : tree.VStmt) → PutStmts n0 n1 before after ts → PutStmt n1 n2 i.place t
+    → PutStmts n0 n2 before (after ++ i ∷ []) (ts ++ t ∷ [])
+stmts_more n0 n1 n2 before after ts i t p q = record {
+  grows = grows_then n0 n1 n2 p.grows q.grows;
+  within = below_more after i (length n2.stmts) (below_wider after (length n1.stmts) (length n2.stmts) p.within q.grows.longer) q.within;
   trees =
-      trees_then (stmt_at (tree_at e2) s2) after i
-      ∙ ap (λ (x : tree.VStmt). trees_of (stmt_at (tree_at e2) s2) after ++ x ∷ []) q.tree
-      ∙ ap (λ (xs : List tree.VStmt). xs ++ t ∷ []) (trees_stay (stmt_at (tree_at e1) s1) (stmt_at (tree_at e2) s2) (length s1) after q.grows.stays p.within ∙ p.trees)
-      ∙ append_assoc (trees_of (stmt_at (tree_at e0) s0) before) ts (t ∷ []);
+      trees_then (stmt_tree n2) after i
+      ∙ ap (λ (x : tree.VStmt). trees_of (stmt_tree n2) after ++ x ∷ []) q.is
+      ∙ ap (λ (xs : List tree.VStmt). xs ++ t ∷ []) (trees_stay (stmt_tree n1) (stmt_tree n2) (length n1.stmts) after q.grows.stays p.within ∙ p.trees)
+      ∙ append_assoc (trees_of (stmt_tree n0) before) ts (t ∷ []);
 }
 
 pub texts_more : (g : ℕ → tree.VStmt) (ids : List StmtId) (k : ℕ) (z : StmtId) → k < length ids → texts_of g (take (k + 1) ids) ≡ texts_of g (take k ids) ++ g (get_or ids k z).place ∷ []
@@ -154,15 +132,12 @@ texts_block g [] end = refl
 texts_block g (i ∷ is) end = ap (tree.InBlock (g i.place)) (texts_block g is end)
 
 -- a list that began empty
-pub block_put : (e0 e1 : List VExpr) (s0 s1 : List VStmt) (before after : List StmtRef) (g : ℕ → tree.VStmt) (ids : List StmtId) → before ≡ [] → PutStmts e0 e1 s0 s1 before after (texts_of g ids) → PutBlock e0 e1 s0 s1 after (block_onto g ids tree.EndBlock)
-block_put e0 e1 s0 s1 before after g ids e p = record {
+pub block_put : (n0 n1 : NodeLists) (before after : List StmtRef) (g : ℕ → tree.VStmt) (ids : List StmtId) → before ≡ [] → PutStmts n0 n1 before after (texts_of g ids) → PutBlock n0 n1 after (block_onto g ids tree.EndBlock)
+block_put n0 n1 before after g ids e p = record {
   grows = p.grows;
   within = p.within;
   tree =
-      block_of (stmt_at (tree_at e1) s1) after
-      ∙ ap (λ (ts : List tree.VStmt). before_end ts tree.EndBlock) (p.trees ∙ ap (λ (is : List StmtRef). trees_of (stmt_at (tree_at e0) s0) is ++ texts_of g ids) e)
+      block_of (stmt_tree n1) after
+      ∙ ap (λ (ts : List tree.VStmt). before_end ts tree.EndBlock) (p.trees ∙ ap (λ (is : List StmtRef). trees_of (stmt_tree n0) is ++ texts_of g ids) e)
       ∙ texts_block g ids tree.EndBlock;
 }
-
-pub none_placed : (n : ℕ) (s : List VStmt) → s ≡ [] → StmtsPlaced n s
-none_placed n s e = record { placed = λ k. rw e tt }

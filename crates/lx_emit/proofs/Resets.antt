@@ -1,22 +1,20 @@
 -- The blocks that drive signals, and their resets.
 use Rattle.std.proofs.Common.{◌≡◌, ℕ, zero, suc, ◌<◌, ◌^◌, true, false, List, [], ◌∷◌, ◌++◌, length, lt-ltb, refl, sym, ap, subst, ◌∙◌}
 use Rattle.std.specs.Prelude.{ℤ, Option, Some, None, slice_get, IfSome}
-use Rattle.lx_arena.specs.Lower.{EachLower}
 use Rattle.lx_num.specs.declared.Shape.{Shape}
 use Rattle.lx_num.specs.Ints.{modulo}
 use Rattle.lx_circuit.specs.Circuit.{Made, made}
 use Rattle.lx_vtext.specs.Tree as tree
 use Rattle.lx_vtext.specs.Tree.{Name}
 use Rattle.lx_vtree.specs.declared.nodes.Literal.{Literal}
-use Rattle.lx_vtree.specs.declared.nodes.VExpr.{VExpr}
-use Rattle.lx_vtree.specs.declared.nodes.VStmt.{VStmt}
 use Rattle.lx_vtree.specs.declared.nodes.VStmt.TheVariants as node
 use Rattle.lx_vtree.specs.declared.nodes.VTarget.TheVariants as target
 use Rattle.lx_vtree.specs.Modules as modules
 use Rattle.lx_vtree.specs.Below.{Ref}
-use Rattle.lx_vtree.specs.Growth.{AddedStmt}
-use Rattle.lx_vtree.specs.Trees.{tree_at}
-use Rattle.lx_vtree.specs.Stmts.{StmtRef, plant_block, stmt_at, is_stmt_below, StmtsPlaced}
+use Rattle.lx_vtree.specs.Growth.{PutExpr, PutStmt, AddedStmt}
+use Rattle.lx_vtree.specs.NodeLists.{NodeLists, stmt_tree}
+use Rattle.lx_vtree.specs.Stmts.{StmtRef, plant_block}
+use Rattle.lx_vtree.proofs.Grown.{grows_same, grows_then}
 use Rattle.lx_fhdl.specs.Below.{StmtId}
 use Rattle.lx_fhdl.specs.Designs.{circuit_of}
 use Rattle.lx_fhdl.specs.Keeping.{EachOf, HasResetPath, IsReset, IsDomain, Keeps}
@@ -28,12 +26,11 @@ use Rattle.lx_emission.specs.Naming.{net}
 use Rattle.lx_emission.specs.Signals as signals
 use Rattle.lx_emission.specs.Signals.{literal_text, reset_text, reset_block, domain_reset}
 use Rattle.lx_emission.specs.Texts.{block_onto}
-use Rattle.lx_emit.specs.Puts.{IsTarget, PutStmt, PutBlock, PutElse, PutStmts, trees_of, texts_of}
-use Rattle.lx_emit.specs.Tables.{Put}
+use Rattle.lx_emit.specs.Puts.{IsTarget, PutBlock, PutElse, PutStmts, trees_of, texts_of}
 use Rattle.lx_emit.specs.Resets.{reset_stmt, block_by}
 use Rattle.lx_emit.proofs.Operands.{place_within}
 use Rattle.lx_emit.proofs.Owners.{made_is}
-use Rattle.lx_emit.proofs.Grown.{before_end, end_after, block_of, texts_block, both_none, both_more, when_put, stmts_more}
+use Rattle.lx_emit.proofs.Grown.{before_end, end_after, block_of, texts_block, when_put, stmts_more}
 
 -- ---- resets
 
@@ -83,59 +80,59 @@ pub whole_is : (n m : Name) → n ≡ m → IsTarget (target.Whole n) (tree.Whol
 whole_is n m e = record { tree = λ f. ap tree.Whole e; placed = λ k. refl }
 
 -- a list that began empty
-pub stmts_block : (e0 e1 : List VExpr) (s0 s1 : List VStmt) (before after : List StmtRef) (ts : List tree.VStmt) → before ≡ [] → PutStmts e0 e1 s0 s1 before after ts → PutBlock e0 e1 s0 s1 after (before_end ts tree.EndBlock)
-stmts_block e0 e1 s0 s1 before after ts e p = record {
+pub stmts_block : (n0 n1 : NodeLists) (before after : List StmtRef) (ts : List tree.VStmt) → before ≡ [] → PutStmts n0 n1 before after ts → PutBlock n0 n1 after (before_end ts tree.EndBlock)
+stmts_block n0 n1 before after ts e p = record {
   grows = p.grows;
   within = p.within;
   tree =
-      block_of (stmt_at (tree_at e1) s1) after
-      ∙ ap (λ (us : List tree.VStmt). before_end us tree.EndBlock) (p.trees ∙ ap (λ (is : List StmtRef). trees_of (stmt_at (tree_at e0) s0) is ++ ts) e);
+      block_of (stmt_tree n1) after
+      ∙ ap (λ (us : List tree.VStmt). before_end us tree.EndBlock) (p.trees ∙ ap (λ (is : List StmtRef). trees_of (stmt_tree n0) is ++ ts) e);
 }
 
-pub combined_put : (e0 e1 e2 : List VExpr) (s0 s1 s2 : List VStmt) (first : StmtRef) (before after : List StmtRef) (t : tree.VStmt) (g : ℕ → tree.VStmt) (ids : List StmtId)
-    → PutStmt e0 e1 s0 s1 first.place t → before ≡ first ∷ [] → PutStmts e1 e2 s1 s2 before after (texts_of g ids) → PutBlock e0 e2 s0 s2 after (tree.InBlock t (block_onto g ids tree.EndBlock))
-combined_put e0 e1 e2 s0 s1 s2 first before after t g ids p e q = record {
-  grows = both_more e0 e1 e2 s0 s1 s2 p.grows q.grows;
+pub combined_put : (n0 n1 n2 : NodeLists) (first : StmtRef) (before after : List StmtRef) (t : tree.VStmt) (g : ℕ → tree.VStmt) (ids : List StmtId)
+    → PutStmt n0 n1 first.place t → before ≡ first ∷ [] → PutStmts n1 n2 before after (texts_of g ids) → PutBlock n0 n2 after (tree.InBlock t (block_onto g ids tree.EndBlock))
+combined_put n0 n1 n2 first before after t g ids p e q = record {
+  grows = grows_then n0 n1 n2 p.grows q.grows;
   within = q.within;
   tree =
-      block_of (stmt_at (tree_at e2) s2) after
-      ∙ ap (λ (us : List tree.VStmt). before_end us tree.EndBlock) (q.trees ∙ ap (λ (is : List StmtRef). trees_of (stmt_at (tree_at e1) s1) is ++ texts_of g ids) e)
-      ∙ ap (λ (u : tree.VStmt). tree.InBlock u (before_end (texts_of g ids) tree.EndBlock)) p.tree
+      block_of (stmt_tree n2) after
+      ∙ ap (λ (us : List tree.VStmt). before_end us tree.EndBlock) (q.trees ∙ ap (λ (is : List StmtRef). trees_of (stmt_tree n1) is ++ texts_of g ids) e)
+      ∙ ap (λ (u : tree.VStmt). tree.InBlock u (before_end (texts_of g ids) tree.EndBlock)) p.is
       ∙ ap (tree.InBlock t) (texts_block g ids tree.EndBlock);
 }
 
-pub clocked_put : (e0 e1 : List VExpr) (s0 s1 : List VStmt) (before after : List StmtRef) (g : ℕ → tree.VStmt) (ids : List StmtId) (end : tree.VBlock)
-    → before ≡ [] → PutStmts e0 e1 s0 s1 before after (texts_of g ids) → tree.EndBlock ≡ end → PutBlock e0 e1 s0 s1 after (block_onto g ids end)
-clocked_put e0 e1 s0 s1 before after g ids end e p f =
-    subst (λ (b : tree.VBlock). PutBlock e0 e1 s0 s1 after b) (texts_block g ids tree.EndBlock ∙ ap (block_onto g ids) f) (stmts_block e0 e1 s0 s1 before after (texts_of g ids) e p)
+pub clocked_put : (n0 n1 : NodeLists) (before after : List StmtRef) (g : ℕ → tree.VStmt) (ids : List StmtId) (end : tree.VBlock)
+    → before ≡ [] → PutStmts n0 n1 before after (texts_of g ids) → tree.EndBlock ≡ end → PutBlock n0 n1 after (block_onto g ids end)
+clocked_put n0 n1 before after g ids end e p f =
+    subst (λ (b : tree.VBlock). PutBlock n0 n1 after b) (texts_block g ids tree.EndBlock ∙ ap (block_onto g ids) f) (stmts_block n0 n1 before after (texts_of g ids) e p)
 
-pub reset_put : (e0 e1 e2 : List VExpr) (s0 s1 s2 : List VStmt) (before between : List StmtRef) (last : StmtRef) (g : ℕ → tree.VStmt) (ids : List StmtId) (t : tree.VStmt) (end : tree.VBlock)
-    → before ≡ [] → PutStmts e0 e1 s0 s1 before between (texts_of g ids) → PutStmt e1 e2 s1 s2 last.place t → tree.InBlock t tree.EndBlock ≡ end → PutBlock e0 e2 s0 s2 (between ++ last ∷ []) (block_onto g ids end)
-reset_put e0 e1 e2 s0 s1 s2 before between last g ids t end e p q f =
-    subst (λ (b : tree.VBlock). PutBlock e0 e2 s0 s2 (between ++ last ∷ []) b)
+pub reset_put : (n0 n1 n2 : NodeLists) (before between : List StmtRef) (last : StmtRef) (g : ℕ → tree.VStmt) (ids : List StmtId) (t : tree.VStmt) (end : tree.VBlock)
+    → before ≡ [] → PutStmts n0 n1 before between (texts_of g ids) → PutStmt n1 n2 last.place t → tree.InBlock t tree.EndBlock ≡ end → PutBlock n0 n2 (between ++ last ∷ []) (block_onto g ids end)
+reset_put n0 n1 n2 before between last g ids t end e p q f =
+    subst (λ (b : tree.VBlock). PutBlock n0 n2 (between ++ last ∷ []) b)
     (end_after (texts_of g ids) (t ∷ []) tree.EndBlock ∙ texts_block g ids (tree.InBlock t tree.EndBlock) ∙ ap (block_onto g ids) f)
-    (stmts_block e0 e2 s0 s2 before (between ++ last ∷ []) (texts_of g ids ++ t ∷ []) e (stmts_more e0 e1 e2 s0 s1 s2 before between (texts_of g ids) last t p q))
+    (stmts_block n0 n2 before (between ++ last ∷ []) (texts_of g ids ++ t ∷ []) e (stmts_more n0 n1 n2 before between (texts_of g ids) last t p q))
 
-pub no_else : (e : List VExpr) (s : List VStmt) → StmtsPlaced (length e) s → PutElse e e s s None tree.NoElse
-no_else e s p = record { grows = both_none e s p; within = refl; tree = refl }
+pub no_else : (n : NodeLists) → PutElse n n None tree.NoElse
+no_else n = record { grows = grows_same n; within = refl; tree = refl }
 
-lone_block : (e0 e1 : List VExpr) (s0 s1 : List VStmt) (i : StmtRef) (ids : List StmtRef) (t : tree.VStmt) → PutStmt e0 e1 s0 s1 i.place t → ids ≡ i ∷ [] → PutBlock e0 e1 s0 s1 ids (tree.InBlock t tree.EndBlock)
-lone_block e0 e1 s0 s1 i ids t p e = record {
+lone_block : (n0 n1 : NodeLists) (i : StmtRef) (ids : List StmtRef) (t : tree.VStmt) → PutStmt n0 n1 i.place t → ids ≡ i ∷ [] → PutBlock n0 n1 ids (tree.InBlock t tree.EndBlock)
+lone_block n0 n1 i ids t p e = record {
   grows = p.grows;
-  within = rw (e, lt-ltb i.place (length s1) p.within) refl;
-  tree = ap (plant_block (stmt_at (tree_at e1) s1)) e ∙ ap (λ (u : tree.VStmt). tree.InBlock u tree.EndBlock) p.tree;
+  within = rw (e, lt-ltb i.place (length n1.stmts) p.within) refl;
+  tree = ap (plant_block (stmt_tree n1)) e ∙ ap (λ (u : tree.VStmt). tree.InBlock u tree.EndBlock) p.is;
 }
 
 -- one statement under a condition
-pub lone_when : (e0 e1 e2 : List VExpr) (s0 s1 s2 : List VStmt) (lone : StmtRef) (so : List StmtRef) (c : Ref) (i : ℕ) (t : tree.VStmt) (u : tree.VExpr) → PutStmt e0 e1 s0 s1 lone.place t → so ≡ lone ∷ [] → EachLower is_stmt_below s1 → Put e1 e2 c.place u
-    → AddedStmt (tree_at e2) s1 s2 i (node.When c so None) → StmtsPlaced (length e2) s2 → PutStmt e0 e2 s0 s2 i (tree.When u (tree.InBlock t tree.EndBlock) tree.NoElse)
-lone_when e0 e1 e2 s0 s1 s2 lone so c i t u p e low put a placed =
-    when_put e0 e1 e1 e2 s0 s1 s1 s2 so None c (tree.InBlock t tree.EndBlock) tree.NoElse u i (lone_block e0 e1 s0 s1 lone so t p e) (no_else e1 s1 p.grows.placed) low put a placed
+pub lone_when : (n0 n1 n2 n3 : NodeLists) (lone : StmtRef) (so : List StmtRef) (c : Ref) (i : ℕ) (t : tree.VStmt) (u : tree.VExpr) → PutStmt n0 n1 lone.place t → so ≡ lone ∷ [] → PutExpr n1 n2 c.place u
+    → AddedStmt n2 n3 i (node.When c so None) → PutStmt n0 n3 i (tree.When u (tree.InBlock t tree.EndBlock) tree.NoElse)
+lone_when n0 n1 n2 n3 lone so c i t u p e put a =
+    when_put n0 n1 n1 n2 n3 so None c (tree.InBlock t tree.EndBlock) tree.NoElse u i (lone_block n0 n1 lone so t p e) (no_else n1) put a
 
 -- the signal takes its reset value where the reset is high
-pub reset_stmt_put : (e0 e1 e2 : List VExpr) (s0 s1 s2 : List VStmt) (assign : StmtRef) (so : List StmtRef) (c : Ref) (i : ℕ) (d : Design) (names : List Name) (x : ℕ) (r : SigId) (n : Name)
-    → PutStmt e0 e1 s0 s1 assign.place (tree.Assign (tree.Whole (net names x)) false (reset_text d x)) → so ≡ assign ∷ [] → n ≡ net names r.0 → EachLower is_stmt_below s1 → Put e1 e2 c.place (tree.Net n)
-    → AddedStmt (tree_at e2) s1 s2 i (node.When c so None) → StmtsPlaced (length e2) s2 → PutStmt e0 e2 s0 s2 i (reset_stmt d names x r)
-reset_stmt_put e0 e1 e2 s0 s1 s2 assign so c i d names x r n p e f low put a placed =
-    lone_when e0 e1 e2 s0 s1 s2 assign so c i (tree.Assign (tree.Whole (net names x)) false (reset_text d x)) (tree.Net (net names r.0)) p e low
-    (subst (λ (m : Name). Put e1 e2 c.place (tree.Net m)) f put) a placed
+pub reset_stmt_put : (n0 n1 n2 n3 : NodeLists) (assign : StmtRef) (so : List StmtRef) (c : Ref) (i : ℕ) (d : Design) (names : List Name) (x : ℕ) (r : SigId) (n : Name)
+    → PutStmt n0 n1 assign.place (tree.Assign (tree.Whole (net names x)) false (reset_text d x)) → so ≡ assign ∷ [] → n ≡ net names r.0 → PutExpr n1 n2 c.place (tree.Net n)
+    → AddedStmt n2 n3 i (node.When c so None) → PutStmt n0 n3 i (reset_stmt d names x r)
+reset_stmt_put n0 n1 n2 n3 assign so c i d names x r n p e f put a =
+    lone_when n0 n1 n2 n3 assign so c i (tree.Assign (tree.Whole (net names x)) false (reset_text d x)) (tree.Net (net names r.0)) p e
+    (subst (λ (m : Name). PutExpr n1 n2 c.place (tree.Net m)) f put) a

@@ -6,19 +6,17 @@ use Rattle.std.proofs.lemmas.Bool.{and_from, and_parts}
 use Rattle.std.proofs.lemmas.List.{append-nil, take_more}
 use Rattle.std.proofs.lemmas.List.FromFn.{map-range_with_len_more}
 use Rattle.std.proofs.lemmas.Grind.{flat_map-append}
-use Rattle.lx_arena.specs.Lower.{EachLower}
 use Rattle.lx_circuit.specs.Memories as memory
 use Rattle.lx_vtext.specs.Tree as tree
 use Rattle.lx_vtext.specs.Tree.{Name}
-use Rattle.lx_vtree.specs.declared.nodes.VExpr.{VExpr}
-use Rattle.lx_vtree.specs.declared.nodes.VStmt.{VStmt}
 use Rattle.lx_vtree.specs.declared.nodes.VStmt.TheVariants as node
 use Rattle.lx_vtree.specs.declared.nodes.VTarget.{VTarget}
 use Rattle.lx_vtree.specs.declared.nodes.VTarget.TheVariants as target
 use Rattle.lx_vtree.specs.Below.{Ref}
-use Rattle.lx_vtree.specs.Growth.{AddedStmt}
-use Rattle.lx_vtree.specs.Trees.{tree_at}
-use Rattle.lx_vtree.specs.Stmts.{StmtRef, stmt_at, is_stmt_below, is_target_placed, are_stmts_below, StmtsPlaced}
+use Rattle.lx_vtree.specs.Growth.{PutExpr, PutStmt, AddedStmt}
+use Rattle.lx_vtree.specs.NodeLists.{NodeLists, expr_tree, stmt_tree}
+use Rattle.lx_vtree.specs.Stmts.{StmtRef, is_target_placed, are_stmts_below}
+use Rattle.lx_vtree.proofs.Grown.{by_exprs, expr_kept, grows_same, grows_then}
 use Rattle.lx_fhdl.specs.Designs.{circuit_of, memory_at, port_of, shapes, writer_of}
 use Rattle.lx_fhdl.specs.Keeping.{EachOf, HasDomain, IsPort, WriterStands, is_clocked}
 use Rattle.lx_fhdl.specs.declared.exprs.SigId.{SigId}
@@ -29,14 +27,12 @@ use Rattle.lx_fhdl.specs.declared.design.PortMode.TheVariants as mode
 use Rattle.lx_fhdl.specs.declared.design.Design.{Design}
 use Rattle.lx_emission.specs.Memories.{WriteNames, block_of, clocked, field_text, guarded, memory_always, memory_body, port_text, word_target, writes_memory, writes_text, writing_domain}
 use Rattle.lx_emission.specs.Naming.{clock}
-use Rattle.lx_emit.specs.Puts.{IsWordTarget, PutBlock, PutStmt, PutStmts, trees_of}
-use Rattle.lx_emit.specs.Tables.{Put}
+use Rattle.lx_emit.specs.Puts.{IsWordTarget, PutBlock, PutStmts, trees_of}
 use Rattle.lx_emit.specs.Plans.{Plan, net_in}
 use Rattle.lx_emit.specs.Writes.{IsWrite, bound_text, bounded_in, memory_always_in, memory_body_in, part_in, parts_in, port_in, write_in, writes_in}
 use Rattle.lx_emit.specs.declared.writes.Write.{Write}
-use Rattle.lx_emit.proofs.Grown.{before_end, both_more, both_none, by_exprs, by_stmt, stmts_more, when_put}
+use Rattle.lx_emit.proofs.Grown.{before_end, stmts_more, when_put}
 use Rattle.lx_emit.proofs.Operands.{index_is, place_within}
-use Rattle.lx_emit.proofs.Puts.{kept}
 use Rattle.lx_emit.proofs.Remembered.{memory_is}
 use Rattle.lx_emit.proofs.Resets.{no_else, stmts_block}
 
@@ -57,50 +53,50 @@ word_named m a d n width low part e f g =
     ∙ ap (λ (x : Name). tree.Assign (word_target n.memory (tree.Net x) width low part) false (field_text d width low part)) f
     ∙ ap (λ (x : Name). tree.Assign (word_target n.memory (tree.Net n.adr) width low part) false (field_text x width low part)) g
 
-word_put : (e0 e1 e2 : List VExpr) (s0 s1 : List VStmt) (index v : Ref) (t : VTarget) (a value : tree.VExpr) (u : tree.VExpr → tree.VTarget) (i : ℕ) → EachLower is_stmt_below s0 → StmtsPlaced (length e0) s0
-    → Put e0 e1 index.place a → IsWordTarget t index u → Put e1 e2 v.place value → AddedStmt (tree_at e2) s0 s1 i (node.Assign t false v) → StmtsPlaced (length e2) s1 → PutStmt e0 e2 s0 s1 i (tree.Assign (u a) false value)
-word_put e0 e1 e2 s0 s1 index v t a value u i low p put is more b q =
-    let stays = kept e0 e1 e2 index.place a put more.grows in
+word_put : (n0 n1 n2 n3 : NodeLists) (index v : Ref) (t : VTarget) (a value : tree.VExpr) (u : tree.VExpr → tree.VTarget) (i : ℕ)
+    → PutExpr n0 n1 index.place a → IsWordTarget t index u → PutExpr n1 n2 v.place value → AddedStmt n2 n3 i (node.Assign t false v) → PutStmt n0 n3 i (tree.Assign (u a) false value)
+word_put n0 n1 n2 n3 index v t a value u i put is more b =
+    let stays = expr_kept n0 n1 n2 index.place a put more.grows in
     record {
-      grows = both_more e0 e2 e2 s0 s0 s1 (by_exprs e0 e2 s0 low p stays.grows) (by_stmt e2 s0 s1 i (node.Assign t false v) b q);
+      grows = grows_then n0 n2 n3 (by_exprs n0 n2 stays.grows) b.grows;
       within = b.within;
-      tree =
+      is =
           b.is
-          ∙ ap (λ (x : tree.VTarget). tree.Assign x false (tree_at e2 v.place)) (is.tree (tree_at e2))
-          ∙ ap (λ (x : tree.VExpr). tree.Assign (u x) false (tree_at e2 v.place)) stays.is
+          ∙ ap (λ (x : tree.VTarget). tree.Assign x false (expr_tree n2 v.place)) (is.tree (expr_tree n2))
+          ∙ ap (λ (x : tree.VExpr). tree.Assign (u x) false (expr_tree n2 v.place)) stays.is
           ∙ ap (tree.Assign (u a) false) more.is;
     }
 
-pub word_stmt : (e0 e1 e2 : List VExpr) (s0 s1 : List VStmt) (index v : Ref) (t : VTarget) (m a d : Name) (n : WriteNames) (width low part i : ℕ) → m ≡ n.memory → a ≡ n.adr → d ≡ n.dat_w → EachLower is_stmt_below s0 → StmtsPlaced (length e0) s0
-    → Put e0 e1 index.place (tree.Net a) → IsWordTarget t index (λ e. word_target m e width low part) → Put e1 e2 v.place (field_text d width low part) → AddedStmt (tree_at e2) s0 s1 i (node.Assign t false v) → StmtsPlaced (length e2) s1
-    → PutStmt e0 e2 s0 s1 i (tree.Assign (word_target n.memory (tree.Net n.adr) width low part) false (field_text n.dat_w width low part))
-word_stmt e0 e1 e2 s0 s1 index v t m a d n width low part i e f g lower p put is more b q =
-    subst (λ (x : tree.VStmt). PutStmt e0 e2 s0 s1 i x) (word_named m a d n width low part e f g)
-    (word_put e0 e1 e2 s0 s1 index v t (tree.Net a) (field_text d width low part) (λ x. word_target m x width low part) i lower p put is more b q)
+pub word_stmt : (n0 n1 n2 n3 : NodeLists) (index v : Ref) (t : VTarget) (m a d : Name) (n : WriteNames) (width low part i : ℕ) → m ≡ n.memory → a ≡ n.adr → d ≡ n.dat_w
+    → PutExpr n0 n1 index.place (tree.Net a) → IsWordTarget t index (λ e. word_target m e width low part) → PutExpr n1 n2 v.place (field_text d width low part) → AddedStmt n2 n3 i (node.Assign t false v)
+    → PutStmt n0 n3 i (tree.Assign (word_target n.memory (tree.Net n.adr) width low part) false (field_text n.dat_w width low part))
+word_stmt n0 n1 n2 n3 index v t m a d n width low part i e f g put is more b =
+    subst (λ (x : tree.VStmt). PutStmt n0 n3 i x) (word_named m a d n width low part e f g)
+    (word_put n0 n1 n2 n3 index v t (tree.Net a) (field_text d width low part) (λ x. word_target m x width low part) i put is more b)
 
-pub word_placed : (e0 e1 e2 : List VExpr) (index v : Ref) (t : VTarget) (a b : tree.VExpr) (u : tree.VExpr → tree.VTarget) → Put e0 e1 index.place a → IsWordTarget t index u → Put e1 e2 v.place b → IsTrue (is_target_placed (length e2) t && nat_lt v.place (length e2))
-word_placed e0 e1 e2 index v t a b u p is q =
-    and_from (is_target_placed (length e2) t) (nat_lt v.place (length e2)) (is.placed (length e2) (omega (arith, p.within, q.grows.longer))) (lt-ltb v.place (length e2) q.within)
+pub word_placed : (n0 n1 n2 : NodeLists) (index v : Ref) (t : VTarget) (a b : tree.VExpr) (u : tree.VExpr → tree.VTarget) → PutExpr n0 n1 index.place a → IsWordTarget t index u → PutExpr n1 n2 v.place b → IsTrue (is_target_placed (length n2.exprs) t && nat_lt v.place (length n2.exprs))
+word_placed n0 n1 n2 index v t a b u p is q =
+    and_from (is_target_placed (length n2.exprs) t) (nat_lt v.place (length n2.exprs)) (is.placed (length n2.exprs) (omega (arith, p.within, q.grows.longer))) (lt-ltb v.place (length n2.exprs) q.within)
 
 -- ---- parts
 
 pub parts_next : (p : Plan) (w : Write) (i : ℕ) → map (part_in p w) (range_with_len 0 (i + 1)) ≡ map (part_in p w) (range_with_len 0 i) ++ part_in p w i ∷ []
 parts_next p w i = map-range_with_len_more (part_in p w) 0 i i (omega arith)
 
-pub stmts_none : (e : List VExpr) (s : List VStmt) (list : List StmtRef) → StmtsPlaced (length e) s → are_stmts_below list (length s) ≡ true → PutStmts e e s s list list []
-stmts_none e s list p h = record { grows = both_none e s p; within = h; trees = sym (append-nil (trees_of (stmt_at (tree_at e) s) list)) }
+pub stmts_none : (n : NodeLists) (list : List StmtRef) → are_stmts_below list (length n.stmts) ≡ true → PutStmts n n list list []
+stmts_none n list h = record { grows = grows_same n; within = h; trees = sym (append-nil (trees_of (stmt_tree n) list)) }
 
 -- the same texts
-pub stmts_is : (e0 e1 : List VExpr) (s0 s1 : List VStmt) (before after : List StmtRef) (ts us : List tree.VStmt) → ts ≡ us → PutStmts e0 e1 s0 s1 before after ts → PutStmts e0 e1 s0 s1 before after us
-stmts_is e0 e1 s0 s1 before after ts us e h = subst (λ (vs : List tree.VStmt). PutStmts e0 e1 s0 s1 before after vs) e h
+pub stmts_is : (n0 n1 : NodeLists) (before after : List StmtRef) (ts us : List tree.VStmt) → ts ≡ us → PutStmts n0 n1 before after ts → PutStmts n0 n1 before after us
+stmts_is n0 n1 before after ts us e h = subst (λ (vs : List tree.VStmt). PutStmts n0 n1 before after vs) e h
 
-pub stmts_as : {E : Type 0} (r : Result (List StmtRef) E) (e0 e1 : List VExpr) (s0 s1 : List VStmt) (before : List StmtRef) (ts us : List tree.VStmt) → ts ≡ us → IfOk r (λ after. PutStmts e0 e1 s0 s1 before after ts)
-    → IfOk r (λ after. PutStmts e0 e1 s0 s1 before after us)
-stmts_as r e0 e1 s0 s1 before ts us e h = subst (λ (vs : List tree.VStmt). IfOk r (λ after. PutStmts e0 e1 s0 s1 before after vs)) e h
+pub stmts_as : {E : Type 0} (r : Result (List StmtRef) E) (n0 n1 : NodeLists) (before : List StmtRef) (ts us : List tree.VStmt) → ts ≡ us → IfOk r (λ after. PutStmts n0 n1 before after ts)
+    → IfOk r (λ after. PutStmts n0 n1 before after us)
+stmts_as r n0 n1 before ts us e h = subst (λ (vs : List tree.VStmt). IfOk r (λ after. PutStmts n0 n1 before after vs)) e h
 
 -- one statement at the end of a list
-pub one_stmt : (e0 e1 : List VExpr) (s0 s1 : List VStmt) (list : List StmtRef) (i : StmtRef) (t : tree.VStmt) → StmtsPlaced (length e0) s0 → are_stmts_below list (length s0) ≡ true → PutStmt e0 e1 s0 s1 i.place t → PutStmts e0 e1 s0 s1 list (list ++ i ∷ []) (t ∷ [])
-one_stmt e0 e1 s0 s1 list i t p h q = stmts_more e0 e0 e1 s0 s0 s1 list list [] i t (stmts_none e0 s0 list p h) q
+pub one_stmt : (n0 n1 : NodeLists) (list : List StmtRef) (i : StmtRef) (t : tree.VStmt) → are_stmts_below list (length n0.stmts) ≡ true → PutStmt n0 n1 i.place t → PutStmts n0 n1 list (list ++ i ∷ []) (t ∷ [])
+one_stmt n0 n1 list i t h q = stmts_more n0 n0 n1 list list [] i t (stmts_none n0 list h) q
 
 pub ends_block : (ts : List tree.VStmt) → before_end ts tree.EndBlock ≡ block_of ts
 ends_block [] = refl
@@ -108,14 +104,14 @@ ends_block (t ∷ ts) = ap (tree.InBlock t) (ends_block ts)
 
 -- ---- an address that may lie at or past the depth
 
-pub bounded_put : (e0 e1 e2 : List VExpr) (s0 s1 s2 : List VStmt) (before so : List StmtRef) (c : Ref) (i : ℕ) (p : Plan) (w : Write) (n : Name) (bits depth : ℕ) → before ≡ [] → PutStmts e0 e1 s0 s1 before so (parts_in p w) → EachLower is_stmt_below s1
-    → n ≡ net_in p w.adr.0 → bits ≡ (shapes p.design w.adr.0).bits → Put e1 e2 c.place (bound_text n bits depth) → AddedStmt (tree_at e2) s1 s2 i (node.When c so None) → StmtsPlaced (length e2) s2 → PutStmt e0 e2 s0 s2 i (bounded_in p w depth)
-bounded_put e0 e1 e2 s0 s1 s2 before so c i p w n bits depth none q low e f put a placed =
-    let body = subst (λ (b : tree.VBlock). PutBlock e0 e1 s0 s1 so b) (ends_block (parts_in p w)) (stmts_block e0 e1 s0 s1 before so (parts_in p w) none q) in
+pub bounded_put : (n0 n1 n2 n3 : NodeLists) (before so : List StmtRef) (c : Ref) (i : ℕ) (p : Plan) (w : Write) (n : Name) (bits depth : ℕ) → before ≡ [] → PutStmts n0 n1 before so (parts_in p w)
+    → n ≡ net_in p w.adr.0 → bits ≡ (shapes p.design w.adr.0).bits → PutExpr n1 n2 c.place (bound_text n bits depth) → AddedStmt n2 n3 i (node.When c so None) → PutStmt n0 n3 i (bounded_in p w depth)
+bounded_put n0 n1 n2 n3 before so c i p w n bits depth none q e f put a =
+    let body = subst (λ (b : tree.VBlock). PutBlock n0 n1 so b) (ends_block (parts_in p w)) (stmts_block n0 n1 before so (parts_in p w) none q) in
     let named : bound_text n bits depth ≡ bound_text (net_in p w.adr.0) (shapes p.design w.adr.0).bits depth =
     ap (λ (m : Name). bound_text m bits depth) e ∙ ap (λ b. bound_text (net_in p w.adr.0) b depth) f in
-    let condition = subst (λ (t : tree.VExpr). Put e1 e2 c.place t) named put in
-    when_put e0 e1 e1 e2 s0 s1 s1 s2 so None c (block_of (parts_in p w)) tree.NoElse (bound_text (net_in p w.adr.0) (shapes p.design w.adr.0).bits depth) i body (no_else e1 s1 q.grows.placed) low condition a placed
+    let condition = subst (λ (t : tree.VExpr). PutExpr n1 n2 c.place t) named put in
+    when_put n0 n1 n1 n2 n3 so None c (block_of (parts_in p w)) tree.NoElse (bound_text (net_in p w.adr.0) (shapes p.design w.adr.0).bits depth) i body (no_else n1) condition a
 
 depth_is : (p : Plan) (w : Write) (m : Memory) → slice_get p.design.memories w.memory ≡ Some m → (memory_at p.design w.memory).depth ≡ m.depth
 depth_is p w m e = ap (λ (x : memory.Memory). x.depth) (memory_is p.design w.memory m e)
@@ -182,11 +178,11 @@ same_memory p q k e = sym (ap (λ b. cond b (writes_in p q) []) e)
 
 -- ---- the ports of a memory
 
-stmts_then : (e0 e1 e2 : List VExpr) (s0 s1 s2 : List VStmt) (xs ys zs : List StmtRef) (ts us : List tree.VStmt) → PutStmts e0 e1 s0 s1 xs ys ts → PutStmts e1 e2 s1 s2 ys zs us → PutStmts e0 e2 s0 s2 xs zs (ts ++ us)
-stmts_then e0 e1 e2 s0 s1 s2 xs ys zs ts us p q = record {
-  grows = both_more e0 e1 e2 s0 s1 s2 p.grows q.grows;
+stmts_then : (n0 n1 n2 : NodeLists) (xs ys zs : List StmtRef) (ts us : List tree.VStmt) → PutStmts n0 n1 xs ys ts → PutStmts n1 n2 ys zs us → PutStmts n0 n2 xs zs (ts ++ us)
+stmts_then n0 n1 n2 xs ys zs ts us p q = record {
+  grows = grows_then n0 n1 n2 p.grows q.grows;
   within = q.within;
-  trees = q.trees ∙ ap (λ (vs : List tree.VStmt). vs ++ us) p.trees ∙ append_assoc (trees_of (stmt_at (tree_at e0) s0) xs) ts us;
+  trees = q.trees ∙ ap (λ (vs : List tree.VStmt). vs ++ us) p.trees ∙ append_assoc (trees_of (stmt_tree n0) xs) ts us;
 }
 
 one_port : (p : Plan) (k j : ℕ) (q : Port) → slice_get p.design.ports j ≡ Some q → flat_map (port_in p k) (take (j + 1) p.design.ports) ≡ flat_map (port_in p k) (take j p.design.ports) ++ port_in p k q
@@ -196,10 +192,10 @@ one_port p k j q e =
     ∙ flat_map-append (port_in p k) (take j p.design.ports) (q ∷ [])
     ∙ ap (λ (ts : List tree.VStmt). flat_map (port_in p k) (take j p.design.ports) ++ ts) (append-nil (port_in p k q))
 
-pub ports_next : (e0 e1 e2 : List VExpr) (s0 s1 s2 : List VStmt) (xs ys zs : List StmtRef) (p : Plan) (k j : ℕ) (q : Port) → slice_get p.design.ports j ≡ Some q → PutStmts e0 e1 s0 s1 xs ys (flat_map (port_in p k) (take j p.design.ports))
-    → PutStmts e1 e2 s1 s2 ys zs (port_in p k q) → PutStmts e0 e2 s0 s2 xs zs (flat_map (port_in p k) (take (j + 1) p.design.ports))
-ports_next e0 e1 e2 s0 s1 s2 xs ys zs p k j q e h g =
-    subst (λ (ts : List tree.VStmt). PutStmts e0 e2 s0 s2 xs zs ts) (sym (one_port p k j q e)) (stmts_then e0 e1 e2 s0 s1 s2 xs ys zs (flat_map (port_in p k) (take j p.design.ports)) (port_in p k q) h g)
+pub ports_next : (n0 n1 n2 : NodeLists) (xs ys zs : List StmtRef) (p : Plan) (k j : ℕ) (q : Port) → slice_get p.design.ports j ≡ Some q → PutStmts n0 n1 xs ys (flat_map (port_in p k) (take j p.design.ports))
+    → PutStmts n1 n2 ys zs (port_in p k q) → PutStmts n0 n2 xs zs (flat_map (port_in p k) (take (j + 1) p.design.ports))
+ports_next n0 n1 n2 xs ys zs p k j q e h g =
+    subst (λ (ts : List tree.VStmt). PutStmts n0 n2 xs zs ts) (sym (one_port p k j q e)) (stmts_then n0 n1 n2 xs ys zs (flat_map (port_in p k) (take j p.design.ports)) (port_in p k q) h g)
 
 take_all : {T : Type 0} (xs : List T) (n : ℕ) → length xs ≤ n → take n xs ≡ xs
 take_all [] zero l = refl
@@ -211,12 +207,12 @@ mapped : {A B C : Type 0} (f : B → List C) (g : A → B) (xs : List A) → fla
 mapped f g [] = refl
 mapped f g (x ∷ xs) = ap (λ (cs : List _). f (g x) ++ cs) (mapped f g xs)
 
-pub body_is : (e0 e1 : List VExpr) (s0 s1 : List VStmt) (before after : List StmtRef) (p : Plan) (k n : ℕ) → before ≡ [] → length p.design.ports ≤ n → PutStmts e0 e1 s0 s1 before after (flat_map (port_in p k) (take n p.design.ports)) → PutBlock e0 e1 s0 s1 after (memory_body_in p k)
+pub body_is : (n0 n1 : NodeLists) (before after : List StmtRef) (p : Plan) (k n : ℕ) → before ≡ [] → length p.design.ports ≤ n → PutStmts n0 n1 before after (flat_map (port_in p k) (take n p.design.ports)) → PutBlock n0 n1 after (memory_body_in p k)
 unfolding memory_body circuit_of
-body_is e0 e1 s0 s1 before after p k n none l h =
+body_is n0 n1 before after p k n none l h =
     let all = flat_map (port_in p k) (take n p.design.ports) in
     let same : all ≡ flat_map (port_text p.design p.names k) (map port_of p.design.ports) = ap (flat_map (port_in p k)) (take_all p.design.ports n l) ∙ mapped (port_text p.design p.names k) port_of p.design.ports in
-    subst (λ (b : tree.VBlock). PutBlock e0 e1 s0 s1 after b) (ends_block all ∙ ap block_of same) (stmts_block e0 e1 s0 s1 before after all none h)
+    subst (λ (b : tree.VBlock). PutBlock n0 n1 after b) (ends_block all ∙ ap block_of same) (stmts_block n0 n1 before after all none h)
 
 -- ---- the clock
 

@@ -1,12 +1,10 @@
--- Statements that are put into arenas.
-use Rattle.std.specs.Prelude.{◌≡◌, ℕ, ◌<◌, ◌≤◌, List, Option, ◌++◌, length, map, IsTrue}
+-- Statements that are put among nodes.
+use Rattle.std.specs.Prelude.{◌≡◌, ℕ, ◌<◌, List, Option, ◌++◌, length, map, IsTrue}
 use Rattle.lx_vtext.specs.Tree as tree
-use Rattle.lx_vtree.specs.declared.nodes.VExpr.{VExpr}
-use Rattle.lx_vtree.specs.declared.nodes.VStmt.{VStmt}
 use Rattle.lx_vtree.specs.declared.nodes.VTarget.{VTarget}
 use Rattle.lx_vtree.specs.Below.{Ref}
-use Rattle.lx_vtree.specs.Trees.{tree_at}
-use Rattle.lx_vtree.specs.Stmts.{StmtRef, plant_target, plant_block, plant_else, stmt_at, are_stmts_below, is_else_below, is_target_placed, StmtsPlaced}
+use Rattle.lx_vtree.specs.NodeLists.{NodeLists, stmt_tree}
+use Rattle.lx_vtree.specs.Stmts.{StmtRef, plant_target, plant_block, plant_else, are_stmts_below, is_else_below, is_target_placed}
 use Rattle.lx_vtree.specs.Growth.{Grows}
 use Rattle.lx_fhdl.specs.Below.{StmtId}
 
@@ -20,30 +18,17 @@ pub record IsWordTarget (t : VTarget) (index : Ref) (u : tree.VExpr → tree.VTa
   pub tree : (f : ℕ → tree.VExpr) → plant_target f t ≡ u (f index.place)
   pub placed : (n : ℕ) → index.place < n → IsTrue (is_target_placed n t)
 
--- both arenas grow, the trees of statements that hung there stay, and all their expressions are there
-pub record GrowsBoth (e0 e1 : List VExpr) (s0 s1 : List VStmt) : Type 0 where
-  pub exprs : Grows e0 e1
-  pub longer : length s0 ≤ length s1
-  pub stays : (id : ℕ) → id < length s0 → stmt_at (tree_at e1) s1 id ≡ stmt_at (tree_at e0) s0 id
-  pub placed : StmtsPlaced (length e1) s1
-
--- a statement more
-pub record PutStmt (e0 e1 : List VExpr) (s0 s1 : List VStmt) (id : ℕ) (t : tree.VStmt) : Type 0 where
-  pub grows : GrowsBoth e0 e1 s0 s1
-  pub within : id < length s1
-  pub tree : stmt_at (tree_at e1) s1 id ≡ t
-
 -- the statements of a block
-pub record PutBlock (e0 e1 : List VExpr) (s0 s1 : List VStmt) (ids : List StmtRef) (b : tree.VBlock) : Type 0 where
-  pub grows : GrowsBoth e0 e1 s0 s1
-  pub within : IsTrue (are_stmts_below ids (length s1))
-  pub tree : plant_block (stmt_at (tree_at e1) s1) ids ≡ b
+pub record PutBlock (old new : NodeLists) (ids : List StmtRef) (b : tree.VBlock) : Type 0 where
+  pub grows : Grows old new
+  pub within : IsTrue (are_stmts_below ids (length new.stmts))
+  pub tree : plant_block (stmt_tree new) ids ≡ b
 
 -- the statements behind an `else`, where there are some
-pub record PutElse (e0 e1 : List VExpr) (s0 s1 : List VStmt) (ids : Option (List StmtRef)) (b : tree.VElse) : Type 0 where
-  pub grows : GrowsBoth e0 e1 s0 s1
-  pub within : IsTrue (is_else_below ids (length s1))
-  pub tree : plant_else (stmt_at (tree_at e1) s1) ids ≡ b
+pub record PutElse (old new : NodeLists) (ids : Option (List StmtRef)) (b : tree.VElse) : Type 0 where
+  pub grows : Grows old new
+  pub within : IsTrue (is_else_below ids (length new.stmts))
+  pub tree : plant_else (stmt_tree new) ids ≡ b
 
 -- the trees of statements at these places
 abbrev pub trees_of : (ℕ → tree.VStmt) → List StmtRef → List tree.VStmt
@@ -53,7 +38,7 @@ abbrev pub texts_of : (ℕ → tree.VStmt) → List StmtId → List tree.VStmt
 texts_of g ids = map (λ (i : StmtId). g i.place) ids
 
 -- the list of a block's statements grows by statements with these trees
-pub record PutStmts (e0 e1 : List VExpr) (s0 s1 : List VStmt) (before after : List StmtRef) (ts : List tree.VStmt) : Type 0 where
-  pub grows : GrowsBoth e0 e1 s0 s1
-  pub within : IsTrue (are_stmts_below after (length s1))
-  pub trees : trees_of (stmt_at (tree_at e1) s1) after ≡ trees_of (stmt_at (tree_at e0) s0) before ++ ts
+pub record PutStmts (old new : NodeLists) (before after : List StmtRef) (ts : List tree.VStmt) : Type 0 where
+  pub grows : Grows old new
+  pub within : IsTrue (are_stmts_below after (length new.stmts))
+  pub trees : trees_of (stmt_tree new) after ≡ trees_of (stmt_tree old) before ++ ts

@@ -3,24 +3,22 @@
 ghost use Rattle.std.specs.Prelude.{◌≡◌, ◌<◌, true, false, length, IfOk, IsTrue, IfSome};
 ghost use Rattle.lx_vtext.specs.Tree as tree;
 ghost use Rattle.lx_vtree.specs.Modules as modules;
-ghost use Rattle.lx_vtree.specs.Stmts.{StmtsPlaced};
+ghost use Rattle.lx_vtree.specs.Growth.{PutExpr, PutStmt};
 ghost use Rattle.lx_fhdl.specs.Below.{all_stmts_below};
 ghost use Rattle.lx_fhdl.specs.Designs as designs;
 ghost use Rattle.lx_fhdl.specs.Lowered.{ArePlain};
 ghost use Rattle.lx_emission.specs.Signals as signals;
 ghost use Rattle.lx_emission.specs.Signals.{comb_body, sync_body};
 ghost use Rattle.lx_emit.specs.Plans.{reset_assign_in, reset_block_in, reset_in};
-ghost use Rattle.lx_emit.specs.Puts.{PutBlock, PutStmt};
+ghost use Rattle.lx_emit.specs.Puts.{PutBlock};
 ghost use Rattle.lx_emit.specs.Resets.{block_by, reset_stmt};
-ghost use Rattle.lx_emit.specs.Tables.{Put};
 
 use crate::exprs::{constant, put_literal, put_net};
 use crate::stmts::put_stmts;
 use crate::tables::{Sheet, net_name};
-use lx_arena::Arena;
 use lx_fhdl::{SigId, StmtId};
 use lx_text::{List, NoMemory};
-use lx_vtree::{ExprId as VExprId, Literal, StmtId as VStmtId, VExpr, VStmt, VTarget, add_stmt};
+use lx_vtree::{ExprId as VExprId, Literal, Nodes, StmtId as VStmtId, VStmt, VTarget};
 use std::alloc::Global;
 
 /// The reset value of a signal, as a literal of its shape.
@@ -34,80 +32,72 @@ pub fn reset_literal(sheet: &Sheet, x: SigId) -> Literal
 }
 
 /// Adds the reset value of a signal.
-pub fn put_reset(exprs: &mut Arena<VExpr>, sheet: &Sheet, x: SigId) -> Result<VExprId, NoMemory>
+pub fn put_reset(nodes: &mut Nodes, sheet: &Sheet, x: SigId) -> Result<VExprId, NoMemory>
     requires { x.0 < length sheet.now.design.signals }
-    ensures { IfOk result (λ i. Put exprs.old exprs.new i.place (reset_in sheet.now x.0)) }
+    ensures { IfOk result (λ i. PutExpr nodes.old nodes.new i.place (reset_in sheet.now x.0)) }
 {
     let literal = reset_literal(sheet, x);
-    put_literal(exprs, literal)
+    put_literal(nodes, literal)
 }
 
 // The assignment of its reset value to a signal.
 fn put_reset_assign(
     alloc: Global,
-    exprs: &mut Arena<VExpr>,
-    stmts: &mut Arena<VStmt>,
+    nodes: &mut Nodes,
     sheet: &Sheet,
     x: SigId,
     blocking: bool,
 ) -> Result<VStmtId, NoMemory>
-    requires placed { StmtsPlaced (length exprs.old) stmts.old }
-    requires signal { x.0 < length sheet.now.design.signals }
-    ensures { IfOk result (λ i. PutStmt exprs.old exprs.new stmts.old stmts.new i.place (reset_assign_in sheet.now blocking x.0)) }
+    requires { x.0 < length sheet.now.design.signals }
+    ensures { IfOk result (λ i. PutStmt nodes.old nodes.new i.place (reset_assign_in sheet.now blocking x.0)) }
 {
-    stmts.lower();
     let target = VTarget::Whole(net_name(alloc, sheet, x)?);
-    let value = put_reset(exprs, sheet, x)?;
+    let value = put_reset(nodes, sheet, x)?;
     let node = VStmt::Assign {
         target,
         blocking,
         value,
     };
-    add_stmt(exprs, stmts, node)
+    nodes.add_stmt(node)
 }
 
 // `if (reset) begin`, the reset value, `end`.
 fn put_reset_stmt(
     alloc: Global,
-    exprs: &mut Arena<VExpr>,
-    stmts: &mut Arena<VStmt>,
+    nodes: &mut Nodes,
     sheet: &Sheet,
     x: SigId,
     reset: SigId,
 ) -> Result<VStmtId, NoMemory>
-    requires placed { StmtsPlaced (length exprs.old) stmts.old }
     requires signal { x.0 < length sheet.now.design.signals }
     requires reset { reset.0 < length sheet.now.design.signals }
-    ensures { IfOk result (λ i. PutStmt exprs.old exprs.new stmts.old stmts.new i.place (reset_stmt sheet.now.design sheet.now.names x.0 reset)) }
+    ensures { IfOk result (λ i. PutStmt nodes.old nodes.new i.place (reset_stmt sheet.now.design sheet.now.names x.0 reset)) }
 {
-    let assign = put_reset_assign(alloc, exprs, stmts, sheet, x, false)?;
+    let assign = put_reset_assign(alloc, nodes, sheet, x, false)?;
     let so = List::of_one(alloc, assign)?;
-    stmts.lower();
     let name = net_name(alloc, sheet, reset)?;
-    let cond = put_net(exprs, name)?;
+    let cond = put_net(nodes, name)?;
     let other = None;
-    add_stmt(exprs, stmts, VStmt::When { cond, so, other })
+    nodes.add_stmt(VStmt::When { cond, so, other })
 }
 
 /// Adds the statements of a block of `always @(*)`: first the reset value, then the statements.
 pub fn put_combined(
     alloc: Global,
-    exprs: &mut Arena<VExpr>,
-    stmts: &mut Arena<VStmt>,
+    nodes: &mut Nodes,
     sheet: &Sheet,
     x: SigId,
     body: &[StmtId],
 ) -> Result<List<VStmtId>, NoMemory>
-    requires placed { StmtsPlaced (length exprs.old) stmts.old }
     requires signal { x.0 < length sheet.now.design.signals }
     requires below { IsTrue (all_stmts_below (length sheet.now.design.stmts) body.now) }
     requires plain { ArePlain (designs.block sheet.now.design body.now) }
-    ensures { IfOk result (λ list. PutBlock exprs.old exprs.new stmts.old stmts.new list (comb_body sheet.now.design sheet.now.names x.0 body.now)) }
+    ensures { IfOk result (λ list. PutBlock nodes.old nodes.new list (comb_body sheet.now.design sheet.now.names x.0 body.now)) }
 {
     let bound = sheet.design.stmts.len();
-    let first = put_reset_assign(alloc, exprs, stmts, sheet, x, true)?;
+    let first = put_reset_assign(alloc, nodes, sheet, x, true)?;
     let list = List::of_one(alloc, first)?;
-    put_stmts(alloc, exprs, stmts, sheet, true, body, bound, list)
+    put_stmts(alloc, nodes, sheet, true, body, bound, list)
 }
 
 // The reset of a domain, where the signal takes part in it.
@@ -127,27 +117,25 @@ fn reset_of(sheet: &Sheet, x: SigId, domain: usize) -> Option<SigId>
 /// Adds the statements of a block at the rise of a domain's clock: the statements, then the reset.
 pub fn put_clocked(
     alloc: Global,
-    exprs: &mut Arena<VExpr>,
-    stmts: &mut Arena<VStmt>,
+    nodes: &mut Nodes,
     sheet: &Sheet,
     x: SigId,
     domain: usize,
     body: &[StmtId],
 ) -> Result<List<VStmtId>, NoMemory>
-    requires placed { StmtsPlaced (length exprs.old) stmts.old }
     requires signal { x.0 < length sheet.now.design.signals }
     requires domain { domain < length sheet.now.design.domains }
     requires below { IsTrue (all_stmts_below (length sheet.now.design.stmts) body.now) }
     requires plain { ArePlain (designs.block sheet.now.design body.now) }
-    ensures { IfOk result (λ list. PutBlock exprs.old exprs.new stmts.old stmts.new list (sync_body sheet.now.design sheet.now.names x.0 domain body.now)) }
+    ensures { IfOk result (λ list. PutBlock nodes.old nodes.new list (sync_body sheet.now.design sheet.now.names x.0 domain body.now)) }
 {
     let bound = sheet.design.stmts.len();
     let empty = List::new(alloc);
-    let mut list = put_stmts(alloc, exprs, stmts, sheet, false, body, bound, empty)?;
+    let mut list = put_stmts(alloc, nodes, sheet, false, body, bound, empty)?;
     let Some(reset) = reset_of(sheet, x, domain) else {
         return Ok(list);
     };
-    let last = put_reset_stmt(alloc, exprs, stmts, sheet, x, reset)?;
+    let last = put_reset_stmt(alloc, nodes, sheet, x, reset)?;
     list.push(last)?;
     Ok(list)
 }

@@ -5,9 +5,8 @@ ghost use Rattle.lx_num.specs.Ints.{modulo};
 ghost use Rattle.lx_tables.specs.Operators.{mix_of, row_of};
 ghost use Rattle.lx_tie.specs.Rows.{unary_op, binary_op};
 ghost use Rattle.lx_vtext.specs.Tree as tree;
-ghost use Rattle.lx_vtree.specs.Below.{are_below};
-ghost use Rattle.lx_vtree.specs.Growth.{Grows};
-ghost use Rattle.lx_vtree.specs.Trees.{tree_at, plants};
+ghost use Rattle.lx_vtree.specs.Growth.{PutExpr};
+ghost use Rattle.lx_vtree.specs.NodeLists.{expr_tree};
 ghost use Rattle.lx_fhdl.specs.Below.{all_below};
 ghost use Rattle.lx_fhdl.specs.declared.exprs.Expr.{Expr};
 ghost use Rattle.lx_emission.specs.Naming.{node_name};
@@ -15,16 +14,15 @@ ghost use Rattle.lx_emission.specs.Emission.{is_net_node};
 ghost use Rattle.lx_emission.specs.Nodes.{node_shape, wide_if, unary_text, binary_text, choice_text, parts_onto, cat_text, slice_text};
 ghost use Rattle.lx_emit.specs.Operands.{tree_of};
 ghost use Rattle.lx_emit.specs.Plans.{memory_in, node_in, operand_in};
-ghost use Rattle.lx_emit.specs.Tables.{Put, PutParts, text_of};
+ghost use Rattle.lx_emit.specs.Tables.{PutParts, text_of};
 
 use crate::tables::{Sheet, memory_name, net_name, number_at, shape_at};
-use lx_arena::Arena;
 use lx_fhdl::{Expr, ExprId};
 use lx_num::{Shape, field};
 use lx_tables::{Mix, Op, OpRow, OpText, op_row};
 use lx_text::{List, NoMemory, Text, Word};
 use lx_vtext::{BinOp, UnOp};
-use lx_vtree::{ExprId as VExprId, Literal, VExpr, add_expr};
+use lx_vtree::{ExprId as VExprId, Literal, Nodes, VExpr};
 use std::alloc::Global;
 
 /// An expression where it is read: a constant is a literal, and all others are the names of nets.
@@ -76,65 +74,60 @@ pub fn operand_of(alloc: Global, sheet: &Sheet, id: ExprId) -> Result<Operand, N
 }
 
 /// Adds the name of a net.
-pub fn put_net(out: &mut Arena<VExpr>, name: Word) -> Result<VExprId, NoMemory>
-    ensures { IfOk result (λ i. Put out.old out.new i.place (tree.Net name)) }
+pub fn put_net(nodes: &mut Nodes, name: Word) -> Result<VExprId, NoMemory>
+    ensures { IfOk result (λ i. PutExpr nodes.old nodes.new i.place (tree.Net name)) }
 {
-    add_expr(out, VExpr::Net(name))
+    nodes.add_expr(VExpr::Net(name))
 }
 
 /// Adds a literal.
-pub fn put_literal(out: &mut Arena<VExpr>, literal: Literal) -> Result<VExprId, NoMemory>
-    ensures { IfOk result (λ i. Put out.old out.new i.place (tree.Literal literal.bits literal.signed literal.value)) }
+pub fn put_literal(nodes: &mut Nodes, literal: Literal) -> Result<VExprId, NoMemory>
+    ensures { IfOk result (λ i. PutExpr nodes.old nodes.new i.place (tree.Literal literal.bits literal.signed literal.value)) }
 {
-    add_expr(out, VExpr::Literal(literal))
+    nodes.add_expr(VExpr::Literal(literal))
 }
 
 /// Adds the text of an expression where it is read.
 pub fn put_operand(
     alloc: Global,
-    out: &mut Arena<VExpr>,
+    nodes: &mut Nodes,
     sheet: &Sheet,
     id: ExprId,
 ) -> Result<VExprId, NoMemory>
     requires { id.place < length sheet.now.design.exprs }
-    ensures { IfOk result (λ i. Put out.old out.new i.place (operand_in sheet.now id.place)) }
+    ensures { IfOk result (λ i. PutExpr nodes.old nodes.new i.place (operand_in sheet.now id.place)) }
 {
     match operand_of(alloc, sheet, id)? {
-        Operand::Literal(literal) => put_literal(out, literal),
-        Operand::Net(name) => put_net(out, name),
+        Operand::Literal(literal) => put_literal(nodes, literal),
+        Operand::Net(name) => put_net(nodes, name),
     }
 }
 
 // `$signed({1'd0, e})` for an unsigned operand beside a signed one, else the operand as it stands.
-fn put_wide(
-    alloc: Global,
-    out: &mut Arena<VExpr>,
-    widen: bool,
-    of: VExprId,
-) -> Result<VExprId, NoMemory>
-    requires { of.place < length out.old }
-    ensures { IfOk result (λ i. Put out.old out.new i.place (wide_if widen (tree_at out.old of.place))) }
+fn put_wide(alloc: Global, nodes: &mut Nodes, widen: bool, of: VExprId) -> Result<VExprId, NoMemory>
+    requires { of.place < length nodes.old.exprs }
+    ensures { IfOk result (λ i. PutExpr nodes.old nodes.new i.place (wide_if widen (expr_tree nodes.old of.place))) }
 {
     if widen {
-        let zero = put_zero(out)?;
+        let zero = put_zero(nodes)?;
         let more = List::of_one(alloc, of)?;
-        let both = add_expr(out, VExpr::Concatenation { first: zero, more })?;
-        add_expr(out, VExpr::ToSigned(both))
+        let both = nodes.add_expr(VExpr::Concatenation { first: zero, more })?;
+        nodes.add_expr(VExpr::ToSigned(both))
     } else {
         Ok(of)
     }
 }
 
 // The zero bit above an operand.
-fn put_zero(out: &mut Arena<VExpr>) -> Result<VExprId, NoMemory>
-    ensures { IfOk result (λ i. Put out.old out.new i.place (tree.Literal 1 false 0)) }
+fn put_zero(nodes: &mut Nodes) -> Result<VExprId, NoMemory>
+    ensures { IfOk result (λ i. PutExpr nodes.old nodes.new i.place (tree.Literal 1 false 0)) }
 {
     let zero = Literal {
         bits: 1,
         signed: false,
         value: 0,
     };
-    put_literal(out, zero)
+    put_literal(nodes, zero)
 }
 
 // The Verilog operator of a form with one operand.
@@ -183,74 +176,69 @@ fn mix(left: bool, right: bool) -> Mix
 }
 
 // An operator of one operand, sized by its row.
-fn put_unary(
-    alloc: Global,
-    out: &mut Arena<VExpr>,
-    row: OpRow,
-    of: VExprId,
-) -> Result<VExprId, NoMemory>
-    requires { of.place < length out.old }
-    ensures { IfOk result (λ i. Put out.old out.new i.place (unary_text row (tree_at out.old of.place))) }
+fn put_unary(alloc: Global, nodes: &mut Nodes, row: OpRow, of: VExprId) -> Result<VExprId, NoMemory>
+    requires { of.place < length nodes.old.exprs }
+    ensures { IfOk result (λ i. PutExpr nodes.old nodes.new i.place (unary_text row (expr_tree nodes.old of.place))) }
 {
-    let of = put_wide(alloc, out, row.widen_left, of)?;
+    let of = put_wide(alloc, nodes, row.widen_left, of)?;
     let op = unary_op(row.text);
-    add_expr(out, VExpr::Unary { op, of })
+    nodes.add_expr(VExpr::Unary { op, of })
 }
 
 // An operator of two operands, sized by its row.
 fn put_binary(
     alloc: Global,
-    out: &mut Arena<VExpr>,
+    nodes: &mut Nodes,
     row: OpRow,
     left: VExprId,
     right: VExprId,
 ) -> Result<VExprId, NoMemory>
-    requires left { left.place < length out.old }
-    requires right { right.place < length out.old }
-    ensures { IfOk result (λ i. Put out.old out.new i.place (binary_text row (tree_at out.old left.place) (tree_at out.old right.place))) }
+    requires left { left.place < length nodes.old.exprs }
+    requires right { right.place < length nodes.old.exprs }
+    ensures { IfOk result (λ i. PutExpr nodes.old nodes.new i.place (binary_text row (expr_tree nodes.old left.place) (expr_tree nodes.old right.place))) }
 {
-    let wide_left = put_wide(alloc, out, row.widen_left, left)?;
-    let wide_right = put_wide(alloc, out, row.widen_right, right)?;
+    let wide_left = put_wide(alloc, nodes, row.widen_left, left)?;
+    let wide_right = put_wide(alloc, nodes, row.widen_right, right)?;
     let node = VExpr::Binary {
         left: wide_left,
         op: binary_op(row.text),
         right: wide_right,
     };
-    add_expr(out, node)
+    nodes.add_expr(node)
 }
 
 // A choice between two operands, sized by its row.
 fn put_choice(
     alloc: Global,
-    out: &mut Arena<VExpr>,
+    nodes: &mut Nodes,
     row: OpRow,
     cond: VExprId,
     yes: VExprId,
     no: VExprId,
 ) -> Result<VExprId, NoMemory>
-    requires cond { cond.place < length out.old }
-    requires yes { yes.place < length out.old }
-    requires no { no.place < length out.old }
-    ensures { IfOk result (λ i. Put out.old out.new i.place (choice_text row (tree_at out.old cond.place) (tree_at out.old yes.place) (tree_at out.old no.place))) }
+    requires cond { cond.place < length nodes.old.exprs }
+    requires yes { yes.place < length nodes.old.exprs }
+    requires no { no.place < length nodes.old.exprs }
+    ensures { IfOk result (λ i. PutExpr nodes.old nodes.new i.place (choice_text row (expr_tree nodes.old cond.place) (expr_tree nodes.old yes.place) (expr_tree nodes.old no.place))) }
 {
-    let so = put_wide(alloc, out, row.widen_left, yes)?;
-    let other = put_wide(alloc, out, row.widen_right, no)?;
-    add_expr(out, VExpr::Conditional { cond, so, other })
+    let so = put_wide(alloc, nodes, row.widen_left, yes)?;
+    let other = put_wide(alloc, nodes, row.widen_right, no)?;
+    nodes.add_expr(VExpr::Conditional { cond, so, other })
 }
 
 // Adds the texts of parts, the last one first.
 fn put_parts(
     alloc: Global,
-    out: &mut Arena<VExpr>,
+    nodes: &mut Nodes,
     sheet: &Sheet,
     parts: &[ExprId],
 ) -> Result<List<VExprId>, NoMemory>
     requires { IsTrue (all_below (length sheet.now.design.exprs) parts.now) }
-    ensures { IfOk result (λ ids. PutParts out.old out.new ids (parts_onto (operand_in sheet.now) parts.now tree.NoMore)) }
+    ensures { IfOk result (λ ids. PutParts nodes.old nodes.new ids (parts_onto (operand_in sheet.now) parts.now tree.NoMore)) }
 {
     let mut texts = List::new(alloc);
     for place in (0..parts.len()).rev() {
-        let text = put_operand(alloc, out, sheet, parts[place])?;
+        let text = put_operand(alloc, nodes, sheet, parts[place])?;
         texts.push(text)?;
     }
     Ok(texts)
@@ -259,41 +247,41 @@ fn put_parts(
 // Parts side by side: the first stands last, in the lowest bits.
 fn put_cat(
     alloc: Global,
-    out: &mut Arena<VExpr>,
+    nodes: &mut Nodes,
     sheet: &Sheet,
     parts: &[ExprId],
 ) -> Result<VExprId, NoMemory>
     requires places { IsTrue (all_below (length sheet.now.design.exprs) parts.now) }
     requires some { 0 < length parts.now }
-    ensures { IfOk result (λ i. Put out.old out.new i.place (cat_text (operand_in sheet.now) parts.now)) }
+    ensures { IfOk result (λ i. PutExpr nodes.old nodes.new i.place (cat_text (operand_in sheet.now) parts.now)) }
 {
     let last = parts.len() - 1;
-    let first = put_operand(alloc, out, sheet, parts[last])?;
-    let more = put_parts(alloc, out, sheet, &parts[..last])?;
-    add_expr(out, VExpr::Concatenation { first, more })
+    let first = put_operand(alloc, nodes, sheet, parts[last])?;
+    let more = put_parts(alloc, nodes, sheet, &parts[..last])?;
+    nodes.add_expr(VExpr::Concatenation { first, more })
 }
 
 // Bits `low` to `high - 1` of a net of so many bits; a select never covers its name.
 fn put_select(
-    out: &mut Arena<VExpr>,
+    nodes: &mut Nodes,
     name: Word,
     bits: u8,
     low: u32,
     high: u32,
 ) -> Result<VExprId, NoMemory>
     requires { low < high }
-    ensures { IfOk result (λ i. Put out.old out.new i.place (slice_text (tree.Net name) bits low high)) }
+    ensures { IfOk result (λ i. PutExpr nodes.old nodes.new i.place (slice_text (tree.Net name) bits low high)) }
 {
     if low == 0 && high == bits as u32 {
-        let net = put_net(out, name)?;
-        return add_expr(out, VExpr::ToUnsigned(net));
+        let net = put_net(nodes, name)?;
+        return nodes.add_expr(VExpr::ToUnsigned(net));
     }
     let node = VExpr::PartSelect {
         name,
         hi: (high - 1) as u64,
         lo: low as u64,
     };
-    add_expr(out, node)
+    nodes.add_expr(node)
 }
 
 // Bits `low` to `high - 1` of a literal.
@@ -312,7 +300,7 @@ fn field_of(literal: Literal, low: u32, high: u32) -> Literal
 
 // Bits `low` to `high - 1` of an operand of so many bits.
 fn put_slice(
-    out: &mut Arena<VExpr>,
+    nodes: &mut Nodes,
     of: Operand,
     bits: u8,
     low: u32,
@@ -320,11 +308,11 @@ fn put_slice(
 ) -> Result<VExprId, NoMemory>
     requires some { low < high }
     requires most { high < 128 }
-    ensures { IfOk result (λ i. Put out.old out.new i.place (slice_text (tree_of of) bits low high)) }
+    ensures { IfOk result (λ i. PutExpr nodes.old nodes.new i.place (slice_text (tree_of of) bits low high)) }
 {
     match of {
-        Operand::Literal(literal) => put_literal(out, field_of(literal, low, high)),
-        Operand::Net(name) => put_select(out, name, bits, low, high),
+        Operand::Literal(literal) => put_literal(nodes, field_of(literal, low, high)),
+        Operand::Net(name) => put_select(nodes, name, bits, low, high),
     }
 }
 
@@ -341,23 +329,23 @@ fn row_at(sheet: &Sheet, op: Op, left: ExprId, right: ExprId) -> OpRow
 // An operator of one operand.
 fn put_unary_of(
     alloc: Global,
-    out: &mut Arena<VExpr>,
+    nodes: &mut Nodes,
     sheet: &Sheet,
     op: Op,
     of: ExprId,
 ) -> Result<VExprId, NoMemory>
     requires { of.place < length sheet.now.design.exprs }
-    ensures { IfOk result (λ i. Put out.old out.new i.place (text_of sheet.now (Expr.Unary op of))) }
+    ensures { IfOk result (λ i. PutExpr nodes.old nodes.new i.place (text_of sheet.now (Expr.Unary op of))) }
 {
     let row = row_at(sheet, op, of, of);
-    let of = put_operand(alloc, out, sheet, of)?;
-    put_unary(alloc, out, row, of)
+    let of = put_operand(alloc, nodes, sheet, of)?;
+    put_unary(alloc, nodes, row, of)
 }
 
 // An operator of two operands.
 fn put_binary_of(
     alloc: Global,
-    out: &mut Arena<VExpr>,
+    nodes: &mut Nodes,
     sheet: &Sheet,
     op: Op,
     left: ExprId,
@@ -365,18 +353,18 @@ fn put_binary_of(
 ) -> Result<VExprId, NoMemory>
     requires left { left.place < length sheet.now.design.exprs }
     requires right { right.place < length sheet.now.design.exprs }
-    ensures { IfOk result (λ i. Put out.old out.new i.place (text_of sheet.now (Expr.Binary op left right))) }
+    ensures { IfOk result (λ i. PutExpr nodes.old nodes.new i.place (text_of sheet.now (Expr.Binary op left right))) }
 {
     let row = row_at(sheet, op, left, right);
-    let a = put_operand(alloc, out, sheet, left)?;
-    let b = put_operand(alloc, out, sheet, right)?;
-    put_binary(alloc, out, row, a, b)
+    let a = put_operand(alloc, nodes, sheet, left)?;
+    let b = put_operand(alloc, nodes, sheet, right)?;
+    put_binary(alloc, nodes, row, a, b)
 }
 
 // A choice between two operands.
 fn put_choice_of(
     alloc: Global,
-    out: &mut Arena<VExpr>,
+    nodes: &mut Nodes,
     sheet: &Sheet,
     cond: ExprId,
     yes: ExprId,
@@ -385,35 +373,35 @@ fn put_choice_of(
     requires cond { cond.place < length sheet.now.design.exprs }
     requires yes { yes.place < length sheet.now.design.exprs }
     requires no { no.place < length sheet.now.design.exprs }
-    ensures { IfOk result (λ i. Put out.old out.new i.place (text_of sheet.now (Expr.Mux cond yes no))) }
+    ensures { IfOk result (λ i. PutExpr nodes.old nodes.new i.place (text_of sheet.now (Expr.Mux cond yes no))) }
 {
     let row = row_at(sheet, Op::Mux, yes, no);
-    let c = put_operand(alloc, out, sheet, cond)?;
-    let a = put_operand(alloc, out, sheet, yes)?;
-    let b = put_operand(alloc, out, sheet, no)?;
-    put_choice(alloc, out, row, c, a, b)
+    let c = put_operand(alloc, nodes, sheet, cond)?;
+    let a = put_operand(alloc, nodes, sheet, yes)?;
+    let b = put_operand(alloc, nodes, sheet, no)?;
+    put_choice(alloc, nodes, row, c, a, b)
 }
 
 // Copies of an operand side by side.
 fn put_copies_of(
     alloc: Global,
-    out: &mut Arena<VExpr>,
+    nodes: &mut Nodes,
     sheet: &Sheet,
     of: ExprId,
     count: u32,
 ) -> Result<VExprId, NoMemory>
     requires { of.place < length sheet.now.design.exprs }
-    ensures { IfOk result (λ i. Put out.old out.new i.place (text_of sheet.now (Expr.Replicate of count))) }
+    ensures { IfOk result (λ i. PutExpr nodes.old nodes.new i.place (text_of sheet.now (Expr.Replicate of count))) }
 {
     let count = count as u64;
-    let of = put_operand(alloc, out, sheet, of)?;
-    add_expr(out, VExpr::Replication { count, of })
+    let of = put_operand(alloc, nodes, sheet, of)?;
+    nodes.add_expr(VExpr::Replication { count, of })
 }
 
 // Bits `low` to `high - 1` of an operand.
 fn put_slice_of(
     alloc: Global,
-    out: &mut Arena<VExpr>,
+    nodes: &mut Nodes,
     sheet: &Sheet,
     of: ExprId,
     low: u32,
@@ -422,49 +410,49 @@ fn put_slice_of(
     requires place { of.place < length sheet.now.design.exprs }
     requires some { low < high }
     requires most { high < 128 }
-    ensures { IfOk result (λ i. Put out.old out.new i.place (text_of sheet.now (Expr.Slice of low high))) }
+    ensures { IfOk result (λ i. PutExpr nodes.old nodes.new i.place (text_of sheet.now (Expr.Slice of low high))) }
 {
     let bits = shape_at(sheet, of).bits;
     let of = operand_of(alloc, sheet, of)?;
-    put_slice(out, of, bits, low, high)
+    put_slice(nodes, of, bits, low, high)
 }
 
 // A word of a memory.
 fn put_word_of(
     alloc: Global,
-    out: &mut Arena<VExpr>,
+    nodes: &mut Nodes,
     sheet: &Sheet,
     memory: usize,
     at: ExprId,
 ) -> Result<VExprId, NoMemory>
     requires memory { memory < length sheet.now.design.memories }
     requires place { at.place < length sheet.now.design.exprs }
-    ensures { IfOk result (λ i. Put out.old out.new i.place (tree.Word (memory_in sheet.now memory) (operand_in sheet.now at.place))) }
+    ensures { IfOk result (λ i. PutExpr nodes.old nodes.new i.place (tree.Word (memory_in sheet.now memory) (operand_in sheet.now at.place))) }
 {
     let name = memory_name(alloc, sheet, memory)?;
-    let index = put_operand(alloc, out, sheet, at)?;
-    add_expr(out, VExpr::Word { name, index })
+    let index = put_operand(alloc, nodes, sheet, at)?;
+    nodes.add_expr(VExpr::Word { name, index })
 }
 
 /// Adds the text of a node with a net, which drives that net: its operands sized by the operator's row.
 pub fn put_node(
     alloc: Global,
-    out: &mut Arena<VExpr>,
+    nodes: &mut Nodes,
     sheet: &Sheet,
     id: ExprId,
 ) -> Result<VExprId, NoMemory>
     requires place { id.place < length sheet.now.design.exprs }
     requires operator { is_net_node (slice_get sheet.now.design.exprs id.place) ≡ true }
-    ensures { IfOk result (λ i. Put out.old out.new i.place (node_in sheet.now id.place)) }
+    ensures { IfOk result (λ i. PutExpr nodes.old nodes.new i.place (node_in sheet.now id.place)) }
 {
     match sheet.design.exprs.get(id) {
-        Expr::Unary { op, of } => put_unary_of(alloc, out, sheet, *op, *of),
-        Expr::Binary { op, left, right } => put_binary_of(alloc, out, sheet, *op, *left, *right),
-        Expr::Mux { cond, yes, no } => put_choice_of(alloc, out, sheet, *cond, *yes, *no),
-        Expr::Cat(parts) => put_cat(alloc, out, sheet, parts.as_slice()),
-        Expr::Replicate { of, count } => put_copies_of(alloc, out, sheet, *of, *count),
-        Expr::Slice { of, low, high } => put_slice_of(alloc, out, sheet, *of, *low, *high),
-        Expr::Fetch { memory, at, .. } => put_word_of(alloc, out, sheet, *memory, *at),
+        Expr::Unary { op, of } => put_unary_of(alloc, nodes, sheet, *op, *of),
+        Expr::Binary { op, left, right } => put_binary_of(alloc, nodes, sheet, *op, *left, *right),
+        Expr::Mux { cond, yes, no } => put_choice_of(alloc, nodes, sheet, *cond, *yes, *no),
+        Expr::Cat(parts) => put_cat(alloc, nodes, sheet, parts.as_slice()),
+        Expr::Replicate { of, count } => put_copies_of(alloc, nodes, sheet, *of, *count),
+        Expr::Slice { of, low, high } => put_slice_of(alloc, nodes, sheet, *of, *low, *high),
+        Expr::Fetch { memory, at, .. } => put_word_of(alloc, nodes, sheet, *memory, *at),
         Expr::Const { .. } | Expr::Sig(_) | Expr::Pick { .. } => unreachable!(),
     }
 }

@@ -2,21 +2,21 @@
 
 ghost use Rattle.std.specs.Prelude.{◌≡◌, ◌<◌, ◌≤◌, Some, length, slice_get, IfOk, IsTrue};
 ghost use Rattle.lx_vtext.specs.Tree as tree;
-ghost use Rattle.lx_vtree.specs.Stmts.{StmtsPlaced, are_stmts_below};
+ghost use Rattle.lx_vtree.specs.Growth.{PutStmt};
+ghost use Rattle.lx_vtree.specs.Stmts.{are_stmts_below};
 ghost use Rattle.lx_fhdl.specs.Designs as designs;
 ghost use Rattle.lx_fhdl.specs.Below.{all_stmts_below};
 ghost use Rattle.lx_fhdl.specs.Lowered.{IsPlain, ArePlain};
 ghost use Rattle.lx_emission.specs.Texts.{covers, block_onto, else_text};
 ghost use Rattle.lx_emit.specs.Plans.{assign_in, stmt_in, target_in, when_in};
 ghost use Rattle.lx_emit.specs.Drives.{IsPlainTarget};
-ghost use Rattle.lx_emit.specs.Puts.{IsTarget, PutStmt, PutBlock, PutElse, PutStmts, texts_of};
+ghost use Rattle.lx_emit.specs.Puts.{IsTarget, PutBlock, PutElse, PutStmts, texts_of};
 
 use crate::exprs::put_operand;
 use crate::tables::{Sheet, net_name, shape_of_signal};
-use lx_arena::Arena;
 use lx_fhdl::{Branch, ExprId, SigId, Stmt, StmtId, Target, TargetId};
 use lx_text::{List, NoMemory, Word};
-use lx_vtree::{StmtId as VStmtId, VExpr, VStmt, VTarget, add_stmt};
+use lx_vtree::{Nodes, StmtId as VStmtId, VStmt, VTarget};
 use std::alloc::Global;
 
 // Whether the bits from `low` on are all of a signal's.
@@ -57,89 +57,73 @@ pub fn make_target(alloc: Global, sheet: &Sheet, id: TargetId) -> Result<VTarget
 // An assignment.
 fn put_assign(
     alloc: Global,
-    exprs: &mut Arena<VExpr>,
-    stmts: &mut Arena<VStmt>,
+    nodes: &mut Nodes,
     sheet: &Sheet,
     blocking: bool,
     target: TargetId,
     value: ExprId,
 ) -> Result<VStmtId, NoMemory>
-    requires placed { StmtsPlaced (length exprs.old) stmts.old }
     requires target { target.place < length sheet.now.design.targets }
     requires value { value.place < length sheet.now.design.exprs }
     requires plain { IsPlainTarget (designs.target sheet.now.design target.place) }
-    ensures { IfOk result (λ i. PutStmt exprs.old exprs.new stmts.old stmts.new i.place (assign_in sheet.now blocking target value)) }
+    ensures { IfOk result (λ i. PutStmt nodes.old nodes.new i.place (assign_in sheet.now blocking target value)) }
 {
-    stmts.lower();
     let target = make_target(alloc, sheet, target)?;
-    let value = put_operand(alloc, exprs, sheet, value)?;
+    let value = put_operand(alloc, nodes, sheet, value)?;
     let node = VStmt::Assign {
         target,
         blocking,
         value,
     };
-    add_stmt(exprs, stmts, node)
+    nodes.add_stmt(node)
 }
 
 // `if (cond) begin`, the branch, and the rest behind an `else`, where it has statements. All are lower than `bound`.
 #[cycle(put)]
 fn put_when(
     alloc: Global,
-    exprs: &mut Arena<VExpr>,
-    stmts: &mut Arena<VStmt>,
+    nodes: &mut Nodes,
     sheet: &Sheet,
     blocking: bool,
     branch: &Branch,
     rest: &[StmtId],
     bound: usize,
 ) -> Result<VStmtId, NoMemory>
-    requires placed { StmtsPlaced (length exprs.old) stmts.old }
     requires within { bound ≤ length sheet.now.design.stmts }
     requires cond { branch.now.cond.place < length sheet.now.design.exprs }
     requires body { IsTrue (all_stmts_below bound branch.now.body) }
     requires rest { IsTrue (all_stmts_below bound rest.now) }
     requires plain_body { ArePlain (designs.block sheet.now.design branch.now.body) }
     requires plain_rest { ArePlain (designs.block sheet.now.design rest.now) }
-    ensures { IfOk result (λ i. PutStmt exprs.old exprs.new stmts.old stmts.new i.place (when_in sheet.now blocking branch.now rest.now)) }
+    ensures { IfOk result (λ i. PutStmt nodes.old nodes.new i.place (when_in sheet.now blocking branch.now rest.now)) }
 {
-    let so = put_block(
-        alloc,
-        exprs,
-        stmts,
-        sheet,
-        blocking,
-        branch.body.as_slice(),
-        bound,
-    )?;
-    let other = put_else(alloc, exprs, stmts, sheet, blocking, rest, bound)?;
-    stmts.lower();
-    let cond = put_operand(alloc, exprs, sheet, branch.cond)?;
-    add_stmt(exprs, stmts, VStmt::When { cond, so, other })
+    let so = put_block(alloc, nodes, sheet, blocking, branch.body.as_slice(), bound)?;
+    let other = put_else(alloc, nodes, sheet, blocking, rest, bound)?;
+    let cond = put_operand(alloc, nodes, sheet, branch.cond)?;
+    nodes.add_stmt(VStmt::When { cond, so, other })
 }
 
 /// Adds a statement for one signal: with `=` where it acts at once, else with `<=`.
 #[cycle(put)]
 pub fn put_stmt(
     alloc: Global,
-    exprs: &mut Arena<VExpr>,
-    stmts: &mut Arena<VStmt>,
+    nodes: &mut Nodes,
     sheet: &Sheet,
     blocking: bool,
     id: StmtId,
 ) -> Result<VStmtId, NoMemory>
-    requires placed { StmtsPlaced (length exprs.old) stmts.old }
     requires place { id.place < length sheet.now.design.stmts }
     requires plain { IsPlain (designs.stmt sheet.now.design id.place) }
-    ensures { IfOk result (λ i. PutStmt exprs.old exprs.new stmts.old stmts.new i.place (stmt_in sheet.now blocking id.place)) }
+    ensures { IfOk result (λ i. PutStmt nodes.old nodes.new i.place (stmt_in sheet.now blocking id.place)) }
 {
     match sheet.design.stmts.get(id) {
         Stmt::Assign { target, value, .. } => {
-            put_assign(alloc, exprs, stmts, sheet, blocking, *target, *value)
+            put_assign(alloc, nodes, sheet, blocking, *target, *value)
         }
         Stmt::If { branches, rest, .. } => {
             let branch = branches.at(0);
             let rest = rest.as_slice();
-            put_when(alloc, exprs, stmts, sheet, blocking, branch, rest, id.place)
+            put_when(alloc, nodes, sheet, blocking, branch, rest, id.place)
         }
         Stmt::Case { .. } => unreachable!(),
     }
@@ -149,23 +133,21 @@ pub fn put_stmt(
 #[cycle(put)]
 fn put_else(
     alloc: Global,
-    exprs: &mut Arena<VExpr>,
-    stmts: &mut Arena<VStmt>,
+    nodes: &mut Nodes,
     sheet: &Sheet,
     blocking: bool,
     ids: &[StmtId],
     bound: usize,
 ) -> Result<Option<List<VStmtId>>, NoMemory>
-    requires placed { StmtsPlaced (length exprs.old) stmts.old }
     requires within { bound ≤ length sheet.now.design.stmts }
     requires below { IsTrue (all_stmts_below bound ids.now) }
     requires plain { ArePlain (designs.block sheet.now.design ids.now) }
-    ensures { IfOk result (λ list. PutElse exprs.old exprs.new stmts.old stmts.new list (else_text (stmt_in sheet.now blocking) ids.now)) }
+    ensures { IfOk result (λ list. PutElse nodes.old nodes.new list (else_text (stmt_in sheet.now blocking) ids.now)) }
 {
     if ids.is_empty() {
         return Ok(None);
     }
-    let list = put_block(alloc, exprs, stmts, sheet, blocking, ids, bound)?;
+    let list = put_block(alloc, nodes, sheet, blocking, ids, bound)?;
     Ok(Some(list))
 }
 
@@ -173,45 +155,41 @@ fn put_else(
 #[cycle(put)]
 pub fn put_block(
     alloc: Global,
-    exprs: &mut Arena<VExpr>,
-    stmts: &mut Arena<VStmt>,
+    nodes: &mut Nodes,
     sheet: &Sheet,
     blocking: bool,
     ids: &[StmtId],
     bound: usize,
 ) -> Result<List<VStmtId>, NoMemory>
-    requires placed { StmtsPlaced (length exprs.old) stmts.old }
     requires within { bound ≤ length sheet.now.design.stmts }
     requires below { IsTrue (all_stmts_below bound ids.now) }
     requires plain { ArePlain (designs.block sheet.now.design ids.now) }
-    ensures { IfOk result (λ list. PutBlock exprs.old exprs.new stmts.old stmts.new list (block_onto (stmt_in sheet.now blocking) ids.now tree.EndBlock)) }
+    ensures { IfOk result (λ list. PutBlock nodes.old nodes.new list (block_onto (stmt_in sheet.now blocking) ids.now tree.EndBlock)) }
 {
     let list = List::new(alloc);
-    put_stmts(alloc, exprs, stmts, sheet, blocking, ids, bound, list)
+    put_stmts(alloc, nodes, sheet, blocking, ids, bound, list)
 }
 
 /// Adds statements, each for one signal and lower than `bound`, at the end of a block's list.
 #[cycle(put)]
 pub fn put_stmts(
     alloc: Global,
-    exprs: &mut Arena<VExpr>,
-    stmts: &mut Arena<VStmt>,
+    nodes: &mut Nodes,
     sheet: &Sheet,
     blocking: bool,
     ids: &[StmtId],
     bound: usize,
     list: List<VStmtId>,
 ) -> Result<List<VStmtId>, NoMemory>
-    requires placed { StmtsPlaced (length exprs.old) stmts.old }
     requires within { bound ≤ length sheet.now.design.stmts }
     requires below { IsTrue (all_stmts_below bound ids.now) }
     requires plain { ArePlain (designs.block sheet.now.design ids.now) }
-    requires there { IsTrue (are_stmts_below list (length stmts.old)) }
-    ensures { IfOk result (λ after. PutStmts exprs.old exprs.new stmts.old stmts.new list after (texts_of (stmt_in sheet.now blocking) ids.now)) }
+    requires there { IsTrue (are_stmts_below list (length nodes.old.stmts)) }
+    ensures { IfOk result (λ after. PutStmts nodes.old nodes.new list after (texts_of (stmt_in sheet.now blocking) ids.now)) }
 {
     let mut after = list;
     for id in ids {
-        let stmt = put_stmt(alloc, exprs, stmts, sheet, blocking, *id)?;
+        let stmt = put_stmt(alloc, nodes, sheet, blocking, *id)?;
         after.push(stmt)?;
     }
     Ok(after)

@@ -12,26 +12,23 @@ use crate::decls::decls;
 use crate::memories::inits;
 use crate::ports::ports;
 use crate::tables::Sheet;
-use lx_arena::Arena;
 use lx_fhdl::Design;
 use lx_text::{List, NoMemory, Word};
-use lx_vtree::{Module, Parts};
+use lx_vtree::{Module, Nodes, Parts};
 use std::alloc::Global;
 
-// The parts of the module, with their arenas.
+// The parts of the module, with their nodes.
 fn parts(alloc: Global, sheet: &Sheet) -> Result<Parts, NoMemory>
     ensures { IfOk result (λ parts. ArePartsOf sheet.now.design sheet.now.names parts) }
 {
-    let mut exprs = Arena::new(alloc);
-    let mut stmts = Arena::new(alloc);
+    let mut nodes = Nodes::new(alloc);
     let ports = ports(alloc, sheet)?;
     let decls = decls(alloc, sheet)?;
     let inits = inits(alloc, sheet)?;
-    let assigns = assigns(alloc, &mut exprs, sheet)?;
-    let always = always(alloc, &mut exprs, &mut stmts, sheet)?;
+    let assigns = assigns(alloc, &mut nodes, sheet)?;
+    let always = always(alloc, &mut nodes, sheet)?;
     Ok(Parts {
-        exprs,
-        stmts,
+        nodes,
         ports,
         decls,
         inits,

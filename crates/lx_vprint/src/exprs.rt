@@ -3,20 +3,20 @@
 ghost use Rattle.std.specs.Prelude.{◌≡◌, ◌++◌, ◌<◌, ◌≤◌, length, IsTrue, OnOk};
 ghost use Rattle.lx_vtext.specs.Printed.{expr_text, more_text};
 ghost use Rattle.lx_vtree.specs.Below.{are_below};
-ghost use Rattle.lx_vtree.specs.Trees.{plants, tree_at};
+ghost use Rattle.lx_vtree.specs.NodeLists.{expr_tree};
+ghost use Rattle.lx_vtree.specs.Trees.{plants};
 
 use crate::leaves::{binary_sign, literal, number, range, unary_sign};
-use lx_arena::Arena;
 use lx_text::{NoMemory, Text};
-use lx_vtree::{ExprId, VExpr, expr};
+use lx_vtree::{ExprId, Nodes, VExpr};
 
 /// The text of the expression at a place.
 #[cycle(put)]
-pub(crate) fn put_expr(out: &mut Text, exprs: &Arena<VExpr>, id: ExprId) -> Result<(), NoMemory>
-    requires { id.place < length exprs.now }
-    ensures { OnOk result (out.new ≡ out.old ++ expr_text (tree_at exprs.now id.place)) }
+pub(crate) fn put_expr(out: &mut Text, nodes: &Nodes, id: ExprId) -> Result<(), NoMemory>
+    requires { id.place < length nodes.now.exprs }
+    ensures { OnOk result (out.new ≡ out.old ++ expr_text (expr_tree nodes.now id.place)) }
 {
-    match expr(exprs, id) {
+    match nodes.expr(id) {
         VExpr::Net(name) => {
             out.word(name.as_bytes())?;
         }
@@ -30,54 +30,54 @@ pub(crate) fn put_expr(out: &mut Text, exprs: &Arena<VExpr>, id: ExprId) -> Resu
         VExpr::Word { name, index } => {
             out.word(name.as_bytes())?;
             out.word(b"[")?;
-            put_expr(out, exprs, *index)?;
+            put_expr(out, nodes, *index)?;
             out.word(b"]")?;
         }
         VExpr::Unary { op, of } => {
             out.word(b"(")?;
             out.word(unary_sign(*op))?;
-            put_expr(out, exprs, *of)?;
+            put_expr(out, nodes, *of)?;
             out.word(b")")?;
         }
         VExpr::Binary { left, op, right } => {
             out.word(b"(")?;
-            put_expr(out, exprs, *left)?;
+            put_expr(out, nodes, *left)?;
             out.word(b" ")?;
             out.word(binary_sign(*op))?;
             out.word(b" ")?;
-            put_expr(out, exprs, *right)?;
+            put_expr(out, nodes, *right)?;
             out.word(b")")?;
         }
         VExpr::Conditional { cond, so, other } => {
             out.word(b"(")?;
-            put_expr(out, exprs, *cond)?;
+            put_expr(out, nodes, *cond)?;
             out.word(b" ? ")?;
-            put_expr(out, exprs, *so)?;
+            put_expr(out, nodes, *so)?;
             out.word(b" : ")?;
-            put_expr(out, exprs, *other)?;
+            put_expr(out, nodes, *other)?;
             out.word(b")")?;
         }
         VExpr::Concatenation { first, more } => {
             out.word(b"{")?;
-            put_expr(out, exprs, *first)?;
-            put_more(out, exprs, more.as_slice(), id.place)?;
+            put_expr(out, nodes, *first)?;
+            put_more(out, nodes, more.as_slice(), id.place)?;
             out.word(b"}")?;
         }
         VExpr::Replication { count, of } => {
             out.word(b"{")?;
             number(out, *count as u128)?;
             out.word(b"{")?;
-            put_expr(out, exprs, *of)?;
+            put_expr(out, nodes, *of)?;
             out.word(b"}}")?;
         }
         VExpr::ToSigned(of) => {
             out.word(b"$signed(")?;
-            put_expr(out, exprs, *of)?;
+            put_expr(out, nodes, *of)?;
             out.word(b")")?;
         }
         VExpr::ToUnsigned(of) => {
             out.word(b"$unsigned(")?;
-            put_expr(out, exprs, *of)?;
+            put_expr(out, nodes, *of)?;
             out.word(b")")?;
         }
     }
@@ -86,19 +86,14 @@ pub(crate) fn put_expr(out: &mut Text, exprs: &Arena<VExpr>, id: ExprId) -> Resu
 
 // The further parts of `{}`, each behind a comma.
 #[cycle(put)]
-fn put_more(
-    out: &mut Text,
-    exprs: &Arena<VExpr>,
-    ids: &[ExprId],
-    bound: usize,
-) -> Result<(), NoMemory>
+fn put_more(out: &mut Text, nodes: &Nodes, ids: &[ExprId], bound: usize) -> Result<(), NoMemory>
     requires below { IsTrue (are_below ids.now bound) }
-    requires within { bound ≤ length exprs.now }
-    ensures { OnOk result (out.new ≡ out.old ++ more_text (plants (tree_at exprs.now) ids.now)) }
+    requires within { bound ≤ length nodes.now.exprs }
+    ensures { OnOk result (out.new ≡ out.old ++ more_text (plants (expr_tree nodes.now) ids.now)) }
 {
     for id in ids {
         out.word(b", ")?;
-        put_expr(out, exprs, *id)?;
+        put_expr(out, nodes, *id)?;
     }
     Ok(())
 }

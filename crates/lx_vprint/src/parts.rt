@@ -3,16 +3,15 @@
 ghost use Rattle.std.specs.Prelude.{◌≡◌, ◌++◌, ◌<◌, List, ℕ, length, map, flat_map, nat_lt, IsTrue, OnOk};
 ghost use Rattle.std.specs.List.{list_all};
 ghost use Rattle.lx_vtext.specs.Printed.{head_text, net_hi, net_text, value_text, port_text, ports_text, more_ports_text, bits_text, signed_text, direction_text, decl_text, memory_text, set_text, initial_text, assign_text, event_text, always_text};
-ghost use Rattle.lx_vtree.specs.Trees.{tree_at};
-ghost use Rattle.lx_vtree.specs.Stmts.{stmt_at, are_stmts_below, StmtsPlaced};
+ghost use Rattle.lx_vtree.specs.NodeLists.{expr_tree, stmt_tree};
+ghost use Rattle.lx_vtree.specs.Stmts.{are_stmts_below};
 ghost use Rattle.lx_vtree.specs.Modules.{literal_of, net_of, port_of, decl_of, memory_of, set_of, sets_of, assign_of, always_of};
 
 use crate::exprs::put_expr;
 use crate::leaves::{literal, number};
 use crate::stmts::put_block;
-use lx_arena::Arena;
 use lx_text::{NoMemory, Text, Word};
-use lx_vtree::{Always, Assign, Decl, Initial, Memory, Net, Port, VExpr, VStmt, WordInit};
+use lx_vtree::{Always, Assign, Decl, Initial, Memory, Net, Nodes, Port, WordInit};
 
 // The sign, the range and the name of a net; one bit has no range.
 #[tactic(auto, unfolding(lx_vtext::specs::Printed::head_text))]
@@ -188,32 +187,24 @@ pub(crate) fn put_inits(out: &mut Text, inits: &[Initial]) -> Result<(), NoMemor
 
 /// An assign.
 #[tactic(auto, unfolding(lx_vtext::specs::Printed::assign_text))]
-pub(crate) fn put_assign(
-    out: &mut Text,
-    exprs: &Arena<VExpr>,
-    assign: &Assign,
-) -> Result<(), NoMemory>
-    requires { assign.now.value.place < length exprs.now }
-    ensures { OnOk result (out.new ≡ out.old ++ assign_text (assign_of (tree_at exprs.now) assign.now)) }
+pub(crate) fn put_assign(out: &mut Text, nodes: &Nodes, assign: &Assign) -> Result<(), NoMemory>
+    requires { assign.now.value.place < length nodes.now.exprs }
+    ensures { OnOk result (out.new ≡ out.old ++ assign_text (assign_of (expr_tree nodes.now) assign.now)) }
 {
     out.word(b"assign ")?;
     out.word(assign.name.as_bytes())?;
     out.word(b" = ")?;
-    put_expr(out, exprs, assign.value)?;
+    put_expr(out, nodes, assign.value)?;
     out.word(b";\n")
 }
 
 /// The assigns, one a line.
-pub(crate) fn put_assigns(
-    out: &mut Text,
-    exprs: &Arena<VExpr>,
-    assigns: &[Assign],
-) -> Result<(), NoMemory>
-    requires { IsTrue (list_all (λ a. nat_lt a.value.place (length exprs.now)) assigns.now) }
-    ensures { OnOk result (out.new ≡ out.old ++ flat_map assign_text (map (assign_of (tree_at exprs.now)) assigns.now)) }
+pub(crate) fn put_assigns(out: &mut Text, nodes: &Nodes, assigns: &[Assign]) -> Result<(), NoMemory>
+    requires { IsTrue (list_all (λ a. nat_lt a.value.place (length nodes.now.exprs)) assigns.now) }
+    ensures { OnOk result (out.new ≡ out.old ++ flat_map assign_text (map (assign_of (expr_tree nodes.now)) assigns.now)) }
 {
     for assign in assigns {
-        put_assign(out, exprs, assign)?;
+        put_assign(out, nodes, assign)?;
     }
     Ok(())
 }
@@ -236,36 +227,28 @@ fn put_event(out: &mut Text, clock: &Option<Word>) -> Result<(), NoMemory>
 
 /// An always block.
 #[tactic(auto, unfolding(lx_vtext::specs::Printed::always_text))]
-pub(crate) fn put_always(
-    out: &mut Text,
-    exprs: &Arena<VExpr>,
-    stmts: &Arena<VStmt>,
-    always: &Always,
-) -> Result<(), NoMemory>
-    requires below { IsTrue (are_stmts_below always.now.body (length stmts.now)) }
-    requires placed { StmtsPlaced (length exprs.now) stmts.now }
-    ensures { OnOk result (out.new ≡ out.old ++ always_text (always_of (stmt_at (tree_at exprs.now) stmts.now) always.now)) }
+pub(crate) fn put_always(out: &mut Text, nodes: &Nodes, always: &Always) -> Result<(), NoMemory>
+    requires { IsTrue (are_stmts_below always.now.body (length nodes.now.stmts)) }
+    ensures { OnOk result (out.new ≡ out.old ++ always_text (always_of (stmt_tree nodes.now) always.now)) }
 {
     out.word(b"always @(")?;
     put_event(out, &always.clock)?;
     out.word(b") begin\n")?;
-    put_block(out, exprs, stmts, 1, always.body.as_slice(), stmts.len())?;
+    put_block(out, nodes, 1, always.body.as_slice(), nodes.stmt_count())?;
     out.word(b"end\n")
 }
 
 /// The always blocks.
 pub(crate) fn put_always_blocks(
     out: &mut Text,
-    exprs: &Arena<VExpr>,
-    stmts: &Arena<VStmt>,
+    nodes: &Nodes,
     always: &[Always],
 ) -> Result<(), NoMemory>
-    requires below { IsTrue (list_all (λ a. are_stmts_below a.body (length stmts.now)) always.now) }
-    requires placed { StmtsPlaced (length exprs.now) stmts.now }
-    ensures { OnOk result (out.new ≡ out.old ++ flat_map always_text (map (always_of (stmt_at (tree_at exprs.now) stmts.now)) always.now)) }
+    requires { IsTrue (list_all (λ a. are_stmts_below a.body (length nodes.now.stmts)) always.now) }
+    ensures { OnOk result (out.new ≡ out.old ++ flat_map always_text (map (always_of (stmt_tree nodes.now)) always.now)) }
 {
     for block in always {
-        put_always(out, exprs, stmts, block)?;
+        put_always(out, nodes, block)?;
     }
     Ok(())
 }

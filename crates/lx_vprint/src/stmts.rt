@@ -3,23 +3,18 @@
 ghost use Rattle.std.specs.Prelude.{◌≡◌, ◌++◌, ◌+◌, ◌^◌, ◌<◌, ◌≤◌, length, codes, IsTrue, OnOk};
 ghost use Rattle.lx_vtext.specs.Printed.{indent, expr_text, target_text, stmt_text, else_text, block_text, sets_text};
 ghost use Rattle.lx_vtext.specs.Tree as t;
-ghost use Rattle.lx_vtree.specs.Trees.{tree_at};
-ghost use Rattle.lx_vtree.specs.Stmts.{plant_target, plant_block, plant_else, stmt_at, are_stmts_below, is_else_below, is_target_placed, StmtsPlaced};
+ghost use Rattle.lx_vtree.specs.NodeLists.{expr_tree, stmt_tree};
+ghost use Rattle.lx_vtree.specs.Stmts.{plant_target, plant_block, plant_else, are_stmts_below, is_else_below, is_target_placed};
 
 use crate::exprs::put_expr;
 use crate::leaves::{margin, range};
-use lx_arena::Arena;
 use lx_text::{List, NoMemory, Text};
-use lx_vtree::{ExprId, StmtId, VExpr, VStmt, VTarget, stmt};
+use lx_vtree::{ExprId, Nodes, StmtId, VStmt, VTarget};
 
 /// The text of what an assignment writes.
-pub(crate) fn put_target(
-    out: &mut Text,
-    exprs: &Arena<VExpr>,
-    target: &VTarget,
-) -> Result<(), NoMemory>
-    requires { IsTrue (is_target_placed (length exprs.now) target.now) }
-    ensures { OnOk result (out.new ≡ out.old ++ target_text (plant_target (tree_at exprs.now) target.now)) }
+pub(crate) fn put_target(out: &mut Text, nodes: &Nodes, target: &VTarget) -> Result<(), NoMemory>
+    requires { IsTrue (is_target_placed (length nodes.now.exprs) target.now) }
+    ensures { OnOk result (out.new ≡ out.old ++ target_text (plant_target (expr_tree nodes.now) target.now)) }
 {
     match target {
         VTarget::Whole(name) => {
@@ -32,7 +27,7 @@ pub(crate) fn put_target(
         VTarget::WholeWord { name, index } => {
             out.word(name.as_bytes())?;
             out.word(b"[")?;
-            put_expr(out, exprs, *index)?;
+            put_expr(out, nodes, *index)?;
             out.word(b"]")?;
         }
         VTarget::PartWord {
@@ -43,7 +38,7 @@ pub(crate) fn put_target(
         } => {
             out.word(name.as_bytes())?;
             out.word(b"[")?;
-            put_expr(out, exprs, *index)?;
+            put_expr(out, nodes, *index)?;
             out.word(b"]")?;
             range(out, *hi, *lo)?;
         }
@@ -60,32 +55,32 @@ fn sign(blocking: bool) -> &'static [u8]
 // `target = value;`, or `target <= value;`
 fn put_assignment(
     out: &mut Text,
-    exprs: &Arena<VExpr>,
+    nodes: &Nodes,
     levels: u128,
     target: &VTarget,
     blocking: bool,
     value: ExprId,
 ) -> Result<(), NoMemory>
-    requires target { IsTrue (is_target_placed (length exprs.now) target.now) }
-    requires value { value.place < length exprs.now }
-    ensures { let at = tree_at exprs.now in OnOk result (out.new ≡ out.old ++ stmt_text levels (t.Assign (plant_target at target.now) blocking (at value.place))) }
+    requires target { IsTrue (is_target_placed (length nodes.now.exprs) target.now) }
+    requires value { value.place < length nodes.now.exprs }
+    ensures { let at = expr_tree nodes.now in OnOk result (out.new ≡ out.old ++ stmt_text levels (t.Assign (plant_target at target.now) blocking (at value.place))) }
 {
     margin(out, levels)?;
-    put_target(out, exprs, target)?;
+    put_target(out, nodes, target)?;
     out.word(sign(blocking))?;
-    put_expr(out, exprs, value)?;
+    put_expr(out, nodes, value)?;
     out.word(b";\n")?;
     Ok(())
 }
 
 // `if (cond) begin`
-fn put_if(out: &mut Text, exprs: &Arena<VExpr>, levels: u128, cond: ExprId) -> Result<(), NoMemory>
-    requires { cond.place < length exprs.now }
-    ensures { OnOk result (out.new ≡ out.old ++ (indent levels ++ codes "if (" ++ expr_text (tree_at exprs.now cond.place) ++ codes ") begin\n")) }
+fn put_if(out: &mut Text, nodes: &Nodes, levels: u128, cond: ExprId) -> Result<(), NoMemory>
+    requires { cond.place < length nodes.now.exprs }
+    ensures { OnOk result (out.new ≡ out.old ++ (indent levels ++ codes "if (" ++ expr_text (expr_tree nodes.now cond.place) ++ codes ") begin\n")) }
 {
     margin(out, levels)?;
     out.word(b"if (")?;
-    put_expr(out, exprs, cond)?;
+    put_expr(out, nodes, cond)?;
     out.word(b") begin\n")?;
     Ok(())
 }
@@ -94,28 +89,26 @@ fn put_if(out: &mut Text, exprs: &Arena<VExpr>, levels: u128, cond: ExprId) -> R
 #[cycle(put)]
 pub(crate) fn put_stmt(
     out: &mut Text,
-    exprs: &Arena<VExpr>,
-    stmts: &Arena<VStmt>,
+    nodes: &Nodes,
     levels: u128,
     id: StmtId,
 ) -> Result<(), NoMemory>
-    requires place { id.place < length stmts.now }
-    requires placed { StmtsPlaced (length exprs.now) stmts.now }
+    requires place { id.place < length nodes.now.stmts }
     requires deep { levels + id.place + 1 < 2 ^ 128 }
-    ensures { OnOk result (out.new ≡ out.old ++ stmt_text levels (stmt_at (tree_at exprs.now) stmts.now id.place)) }
+    ensures { OnOk result (out.new ≡ out.old ++ stmt_text levels (stmt_tree nodes.now id.place)) }
 {
-    match stmt(exprs, stmts, id) {
+    match nodes.stmt(id) {
         VStmt::Assign {
             target,
             blocking,
             value,
         } => {
-            put_assignment(out, exprs, levels, target, *blocking, *value)?;
+            put_assignment(out, nodes, levels, target, *blocking, *value)?;
         }
         VStmt::When { cond, so, other } => {
-            put_if(out, exprs, levels, *cond)?;
-            put_block(out, exprs, stmts, levels + 1, so.as_slice(), id.place)?;
-            put_else(out, exprs, stmts, levels, other, id.place)?;
+            put_if(out, nodes, levels, *cond)?;
+            put_block(out, nodes, levels + 1, so.as_slice(), id.place)?;
+            put_else(out, nodes, levels, other, id.place)?;
             margin(out, levels)?;
             out.word(b"end\n")?;
         }
@@ -127,24 +120,22 @@ pub(crate) fn put_stmt(
 #[cycle(put)]
 fn put_else(
     out: &mut Text,
-    exprs: &Arena<VExpr>,
-    stmts: &Arena<VStmt>,
+    nodes: &Nodes,
     levels: u128,
     other: &Option<List<StmtId>>,
     bound: usize,
 ) -> Result<(), NoMemory>
     requires below { IsTrue (is_else_below other.now bound) }
-    requires within { bound ≤ length stmts.now }
-    requires placed { StmtsPlaced (length exprs.now) stmts.now }
+    requires within { bound ≤ length nodes.now.stmts }
     requires deep { levels + bound + 1 < 2 ^ 128 }
-    ensures { OnOk result (out.new ≡ out.old ++ else_text levels (plant_else (stmt_at (tree_at exprs.now) stmts.now) other.now)) }
+    ensures { OnOk result (out.new ≡ out.old ++ else_text levels (plant_else (stmt_tree nodes.now) other.now)) }
 {
     match other {
         None => Ok(()),
         Some(ids) => {
             margin(out, levels)?;
             out.word(b"end else begin\n")?;
-            put_block(out, exprs, stmts, levels + 1, ids.as_slice(), bound)?;
+            put_block(out, nodes, levels + 1, ids.as_slice(), bound)?;
             Ok(())
         }
     }
@@ -154,20 +145,18 @@ fn put_else(
 #[cycle(put)]
 pub(crate) fn put_block(
     out: &mut Text,
-    exprs: &Arena<VExpr>,
-    stmts: &Arena<VStmt>,
+    nodes: &Nodes,
     levels: u128,
     ids: &[StmtId],
     bound: usize,
 ) -> Result<(), NoMemory>
     requires below { IsTrue (are_stmts_below ids.now bound) }
-    requires within { bound ≤ length stmts.now }
-    requires placed { StmtsPlaced (length exprs.now) stmts.now }
+    requires within { bound ≤ length nodes.now.stmts }
     requires deep { levels + bound < 2 ^ 128 }
-    ensures { OnOk result (out.new ≡ out.old ++ block_text levels (plant_block (stmt_at (tree_at exprs.now) stmts.now) ids.now)) }
+    ensures { OnOk result (out.new ≡ out.old ++ block_text levels (plant_block (stmt_tree nodes.now) ids.now)) }
 {
     for id in ids {
-        put_stmt(out, exprs, stmts, levels, *id)?;
+        put_stmt(out, nodes, levels, *id)?;
     }
     Ok(())
 }

@@ -22,13 +22,13 @@ fn put_parts(out: &mut Text, parts: &Parts) -> Result<(), NoMemory>
     out.word(b");\n")?;
     put_decls(out, parts.decls.as_slice())?;
     put_inits(out, parts.inits.as_slice())?;
-    put_assigns(out, &parts.exprs, parts.assigns.as_slice())?;
-    put_always_blocks(out, &parts.exprs, &parts.stmts, parts.always.as_slice())?;
+    put_assigns(out, &parts.nodes, parts.assigns.as_slice())?;
+    put_always_blocks(out, &parts.nodes, parts.always.as_slice())?;
     out.word(b"endmodule\n")?;
     Ok(())
 }
 
-/// The text of parts whose places are places of their arenas: exactly the text of their tree.
+/// The text of parts whose places are places of their nodes: exactly the text of their tree.
 pub(crate) fn print_parts(alloc: Global, parts: &Parts) -> Result<Text, NoMemory>
     requires { ArePlaced parts.now }
     ensures { IfOk result (λ t. t ≡ module_text (module_of parts.now)) }

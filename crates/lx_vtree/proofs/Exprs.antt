@@ -2,14 +2,13 @@
 use Rattle.std.proofs.Common.{◌≡◌, ℕ, true, List, [], ◌∷◌, ◌++◌, length, Some, IsTrue, slice_get, refl, ltb-true}
 use Rattle.std.proofs.lemmas.Bool.{and_parts}
 use Rattle.lx_arena.specs.Lower.{EachLower}
-use Rattle.lx_arena.specs.Folds.{Same, IsLocal}
+use Rattle.lx_arena.specs.Folds.{Same, IsLocal, Added}
 use Rattle.lx_arena.proofs.Folds.{fold_at-is, added_by}
 use Rattle.lx_vtext.specs.Tree as tree
 use Rattle.lx_vtree.specs.declared.nodes.VExpr.{VExpr}
 use Rattle.lx_vtree.specs.declared.nodes.VExpr.TheVariants as node
 use Rattle.lx_vtree.specs.Below.{Ref, are_below, is_below}
 use Rattle.lx_vtree.specs.Trees.{plants, plant, nowhere, tree_at}
-use Rattle.lx_vtree.specs.Growth.{Added}
 pub use Rattle.std.proofs.lemmas.Bool.{and_parts as both}
 
 plants_same : (f g : ℕ → tree.VExpr) (n : ℕ) (ids : List Ref) → Same f g n → are_below ids n ≡ true → plants f ids ≡ plants g ids
@@ -40,5 +39,5 @@ pub tree_is : (nodes : List VExpr) (id : ℕ) (e : VExpr) → EachLower is_below
 tree_is nodes id e low is = fold_at-is is_below nowhere plant plant_local nodes low id e is
 
 -- a node that is pushed hangs at the end, and the trees that were there stay
-pub added : (old : List VExpr) (e : VExpr) → EachLower is_below (old ++ e ∷ []) → IsTrue (is_below e (length old)) → Added old (old ++ e ∷ []) (length old) e
+pub added : (old : List VExpr) (e : VExpr) → EachLower is_below (old ++ e ∷ []) → IsTrue (is_below e (length old)) → Added tree_at plant old (old ++ e ∷ []) (length old) e
 added old e low below = added_by is_below nowhere plant plant_local old e low below

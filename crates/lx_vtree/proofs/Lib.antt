@@ -1,3 +1,4 @@
 pub mod Exprs
 pub mod Stmts
+pub mod Grown
 pub mod Placed

@@ -2,7 +2,7 @@
 use Rattle.std.proofs.Common.{◌≡◌, ℕ, zero, suc, ◌≤◌, true, List, [], ◌∷◌, ◌++◌, length, Option, Some, None, IfSome, IsTrue, slice_get, refl, subst, arith, ltb-true, lt-ltb}
 use Rattle.std.proofs.lemmas.Bool.{and_parts}
 use Rattle.lx_arena.specs.Lower.{EachLower}
-use Rattle.lx_arena.specs.Folds.{Same, IsLocal}
+use Rattle.lx_arena.specs.Folds.{Same, IsLocal, Added, Grows}
 use Rattle.lx_arena.proofs.Folds.{fold_at-is, fold_at-same, added_by}
 use Rattle.lx_vtext.specs.Tree as tree
 use Rattle.lx_vtree.specs.declared.nodes.VExpr.{VExpr}
@@ -12,7 +12,6 @@ use Rattle.lx_vtree.specs.declared.nodes.VTarget.{VTarget}
 use Rattle.lx_vtree.specs.declared.nodes.VTarget.TheVariants as target
 use Rattle.lx_vtree.specs.Trees.{tree_at}
 use Rattle.lx_vtree.specs.Stmts.{StmtRef, plant_target, plant_block, plant_else, plant_stmt, no_stmt, stmt_at, are_stmts_below, is_else_below, is_stmt_below, is_target_placed, is_stmt_placed, StmtsPlaced}
-use Rattle.lx_vtree.specs.Growth.{Grows, AddedStmt}
 
 block_same : (g h : ℕ → tree.VStmt) (n : ℕ) (ids : List StmtRef) → Same g h n → are_stmts_below ids n ≡ true → plant_block g ids ≡ plant_block h ids
 block_same g h n [] s b = refl
@@ -34,10 +33,13 @@ pub stmt_is : (f : ℕ → tree.VExpr) (nodes : List VStmt) (id : ℕ) (s : VStm
 stmt_is f nodes id s low is = fold_at-is is_stmt_below no_stmt (plant_stmt f) (stmt_local f) nodes low id s is
 
 -- a statement that is pushed hangs at the end, and the trees that were there stay
-pub added_stmt : (f : ℕ → tree.VExpr) (old : List VStmt) (s : VStmt) → EachLower is_stmt_below (old ++ s ∷ []) → IsTrue (is_stmt_below s (length old)) → AddedStmt f old (old ++ s ∷ []) (length old) s
+pub added_stmt : (f : ℕ → tree.VExpr) (old : List VStmt) (s : VStmt) → EachLower is_stmt_below (old ++ s ∷ []) → IsTrue (is_stmt_below s (length old)) → Added (stmt_at f) (plant_stmt f) old (old ++ s ∷ []) (length old) s
 added_stmt f old s low below = added_by is_stmt_below no_stmt (plant_stmt f) (stmt_local f) old s low below
 
 -- ---- expressions
+
+pub none_placed : (n : ℕ) → StmtsPlaced n []
+none_placed n = record { placed = λ k. tt }
 
 pub placed_at : (n : ℕ) (nodes : List VStmt) (id : ℕ) (s : VStmt) → StmtsPlaced n nodes → slice_get nodes id ≡ Some s → IsTrue (is_stmt_placed n s)
 placed_at n nodes id s p is = subst (λ o. IfSome o (λ x. IsTrue (is_stmt_placed n x))) is (p.placed id)
@@ -53,7 +55,7 @@ plant_stays f g h n (stmt.Assign t blocking e) b s = let k = and_parts _ _ b in 
 plant_stays f g h n (stmt.When c so other) b s = rw (s c.place (ltb-true _ _ b)) refl
 
 -- the trees of statements stay while their expressions' arena grows
-pub stmts_stay : (old new : List VExpr) (nodes : List VStmt) (id : ℕ) → EachLower is_stmt_below nodes → StmtsPlaced (length old) nodes → Grows old new → stmt_at (tree_at new) nodes id ≡ stmt_at (tree_at old) nodes id
+pub stmts_stay : (old new : List VExpr) (nodes : List VStmt) (id : ℕ) → EachLower is_stmt_below nodes → StmtsPlaced (length old) nodes → Grows tree_at old new → stmt_at (tree_at new) nodes id ≡ stmt_at (tree_at old) nodes id
 stmts_stay old new nodes id low p grows =
     fold_at-same is_stmt_below no_stmt (plant_stmt (tree_at new)) (plant_stmt (tree_at old)) (stmt_local (tree_at old)) nodes low
     (λ g k x at. plant_stays (tree_at new) (tree_at old) g (length old) x (placed_at (length old) nodes k x p at) grows.trees) id

@@ -4,7 +4,6 @@ use Rattle.std.specs.List.{list_all}
 use Rattle.lx_vtext.specs.Tree as tree
 use Rattle.lx_vtext.specs.Fits.{IsModule}
 use Rattle.lx_vtree.specs.declared.nodes.Literal.{Literal}
-use Rattle.lx_vtree.specs.declared.nodes.VStmt.{VStmt}
 use Rattle.lx_vtree.specs.declared.modules.Net.{Net}
 use Rattle.lx_vtree.specs.declared.modules.Port.{Port}
 use Rattle.lx_vtree.specs.declared.modules.Memory.{Memory}
@@ -15,8 +14,8 @@ use Rattle.lx_vtree.specs.declared.modules.Initial.{Initial}
 use Rattle.lx_vtree.specs.declared.modules.Assign.{Assign}
 use Rattle.lx_vtree.specs.declared.modules.Always.{Always}
 use Rattle.lx_vtree.specs.declared.modules.Parts.{Parts}
-use Rattle.lx_vtree.specs.Trees.{tree_at}
-use Rattle.lx_vtree.specs.Stmts.{plant_block, stmt_at, are_stmts_below, is_stmt_placed, StmtsPlaced}
+use Rattle.lx_vtree.specs.NodeLists.{expr_tree, stmt_tree}
+use Rattle.lx_vtree.specs.Stmts.{plant_block, are_stmts_below}
 
 abbrev pub literal_of : Literal → tree.VLiteral
 literal_of l = record { bits = l.bits; signed = l.signed; value = l.value }
@@ -52,13 +51,9 @@ module_of p = record {
   ports = map port_of p.ports;
   decls = map decl_of p.decls;
   inits = map sets_of p.inits;
-  assigns = map (assign_of (tree_at p.exprs)) p.assigns;
-  always = map (always_of (stmt_at (tree_at p.exprs) p.stmts)) p.always;
+  assigns = map (assign_of (expr_tree p.nodes)) p.assigns;
+  always = map (always_of (stmt_tree p.nodes)) p.always;
 }
-
--- `StmtsPlaced` as a test
-abbrev pub are_placed_stmts : ℕ → List VStmt → Bool
-are_placed_stmts n stmts = list_all (is_stmt_placed n) stmts
 
 abbrev pub are_assigns_placed : ℕ → List Assign → Bool
 are_assigns_placed n assigns = list_all (λ a. nat_lt a.value.place n) assigns
@@ -66,15 +61,14 @@ are_assigns_placed n assigns = list_all (λ a. nat_lt a.value.place n) assigns
 abbrev pub are_blocks_placed : ℕ → List Always → Bool
 are_blocks_placed n blocks = list_all (λ a. are_stmts_below a.body n) blocks
 
--- every place that the parts name is one of their arenas
+-- every place that the parts name is one of their nodes
 pub record ArePlaced (p : Parts) : Type 0 where
-  pub stmts : StmtsPlaced (length p.exprs) p.stmts
-  pub assigns : IsTrue (are_assigns_placed (length p.exprs) p.assigns)
-  pub always : IsTrue (are_blocks_placed (length p.stmts) p.always)
+  pub assigns : IsTrue (are_assigns_placed (length p.nodes.exprs) p.assigns)
+  pub always : IsTrue (are_blocks_placed (length p.nodes.stmts) p.always)
 
 -- the same as a test
 abbrev pub are_parts_placed : Parts → Bool
-are_parts_placed p = are_placed_stmts (length p.exprs) p.stmts && are_assigns_placed (length p.exprs) p.assigns && are_blocks_placed (length p.stmts) p.always
+are_parts_placed p = are_assigns_placed (length p.nodes.exprs) p.assigns && are_blocks_placed (length p.nodes.stmts) p.always
 
 -- the parts of a module that has a text
 pub record HaveText (p : Parts) : Type 0 where

@@ -9,4 +9,4 @@ mod trees;
 pub use modules::{Always, Assign, Decl, Initial, Memory, Module, Net, Parts, Port, WordInit};
 pub use nodes::{ExprId, InExprs, InStmts, Literal, StmtId, VExpr, VStmt, VTarget};
 pub use places::are_placed;
-pub use trees::{add_expr, add_stmt, expr, stmt};
+pub use trees::Nodes;

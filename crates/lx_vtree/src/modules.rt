@@ -3,8 +3,8 @@
 ghost use Rattle.std.specs.Prelude.{◌≡◌};
 ghost use Rattle.lx_vtree.specs.Modules.{HaveText};
 
-use crate::nodes::{ExprId, Literal, StmtId, VExpr, VStmt};
-use lx_arena::Arena;
+use crate::nodes::{ExprId, Literal, StmtId};
+use crate::trees::Nodes;
 use lx_text::{List, Word};
 use std::marker::Model;
 
@@ -69,11 +69,10 @@ pub struct Always {
     pub body: List<StmtId>,
 }
 
-/// The parts of a module, in the order of the text, over the arenas of its expressions and statements.
+/// The parts of a module, in the order of the text, over its expressions and statements.
 #[derive(Drop)]
 pub struct Parts {
-    pub exprs: Arena<VExpr>,
-    pub stmts: Arena<VStmt>,
+    pub nodes: Nodes,
     pub ports: List<Port>,
     pub decls: List<Decl>,
     pub inits: List<Initial>,

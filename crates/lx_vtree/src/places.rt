@@ -1,14 +1,12 @@
-//! Whether the places that parts name are places of their arenas.
+//! Whether the places that parts name are places of their nodes.
 
-ghost use Rattle.std.specs.Prelude.{◌≡◌, ◌↔◌, List, length, IsTrue, IfSome, slice_get};
-ghost use Rattle.std.specs.List.{list_all};
-ghost use Rattle.lx_vtree.specs.Stmts.{is_stmt_placed, is_target_placed, StmtsPlaced};
-ghost use Rattle.lx_vtree.specs.Modules.{ArePlaced, are_assigns_placed, are_blocks_placed, are_placed_stmts, are_parts_placed};
+ghost use Rattle.std.specs.Prelude.{◌≡◌, ◌↔◌, IsTrue};
+ghost use Rattle.lx_vtree.specs.Modules.{ArePlaced, are_assigns_placed, are_blocks_placed, are_parts_placed};
 
 use crate::modules::{Always, Assign, Parts};
-use crate::nodes::{VStmt, VTarget, stmts_below};
+use crate::nodes::stmts_below;
 
-/// Whether every place that the parts name is one of their arenas: what the text of a module asks of its places.
+/// Whether every place that the parts name is one of their nodes: what the text of a module asks of its places.
 pub fn are_placed(parts: &Parts) -> bool
     ensures { IsTrue result ↔ ArePlaced parts.now }
 {
@@ -18,39 +16,8 @@ pub fn are_placed(parts: &Parts) -> bool
 fn places_hold(parts: &Parts) -> bool
     ensures { result ≡ are_parts_placed parts.now }
 {
-    stmts_placed(parts.stmts.as_slice(), parts.exprs.len())
-        && assigns_placed(parts.assigns.as_slice(), parts.exprs.len())
-        && blocks_placed(parts.always.as_slice(), parts.stmts.len())
-}
-
-// Whether the places of a statement's expressions are lower than `n`.
-fn stmt_placed(stmt: &VStmt, n: usize) -> bool
-    ensures { result ≡ is_stmt_placed n stmt.now }
-{
-    match stmt {
-        VStmt::Assign { target, value, .. } => target_placed(target, n) && value.place < n,
-        VStmt::When { cond, .. } => cond.place < n,
-    }
-}
-
-fn target_placed(target: &VTarget, n: usize) -> bool
-    ensures { result ≡ is_target_placed n target.now }
-{
-    match target {
-        VTarget::Whole(_) | VTarget::Part { .. } => true,
-        VTarget::WholeWord { index, .. } | VTarget::PartWord { index, .. } => index.place < n,
-    }
-}
-
-fn stmts_placed(stmts: &[VStmt], n: usize) -> bool
-    ensures { result ≡ are_placed_stmts n stmts.now }
-{
-    for stmt in stmts {
-        if !stmt_placed(stmt, n) {
-            return false;
-        }
-    }
-    true
+    assigns_placed(parts.assigns.as_slice(), parts.nodes.expr_count())
+        && blocks_placed(parts.always.as_slice(), parts.nodes.stmt_count())
 }
 
 fn assigns_placed(assigns: &[Assign], n: usize) -> bool

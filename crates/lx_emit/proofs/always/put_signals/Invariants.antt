@@ -4,4 +4,4 @@ use Rattle.lx_emit.proofs.Lines.{pieces}
 use Rattle.lx_emit.proofs.always.put_signals.Given as goal
 
 abbrev pub invariant-loop-x : goal.invariant-loop-x
-invariant-loop-x l = PutAlways l.initial.exprs l.exprs l.initial.stmts l.stmts l.initial.blocks l.blocks (pieces (signal_always l.sheet.design l.sheet.names) l.sheet.design.signals l.x)
+invariant-loop-x l = PutAlways l.initial.nodes l.nodes l.initial.blocks l.blocks (pieces (signal_always l.sheet.design l.sheet.names) l.sheet.design.signals l.x)

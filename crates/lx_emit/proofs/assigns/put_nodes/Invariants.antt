@@ -4,4 +4,4 @@ use Rattle.lx_emit.proofs.Lines.{pieces}
 use Rattle.lx_emit.proofs.assigns.put_nodes.Given as goal
 
 abbrev pub invariant-loop-place : goal.invariant-loop-place
-invariant-loop-place l = PutAssigns l.initial.exprs l.exprs l.initial.assigns l.assigns (pieces (node_assign l.sheet.design l.sheet.names) l.sheet.design.exprs l.place)
+invariant-loop-place l = PutAssigns l.initial.nodes l.nodes l.initial.assigns l.assigns (pieces (node_assign l.sheet.design l.sheet.names) l.sheet.design.exprs l.place)

@@ -1,6 +1,10 @@
-use Rattle.lx_emit.proofs.Puts.{if_both}
+use Rattle.lx_emit.proofs.Puts.{if_ok}
+use Rattle.lx_emit.proofs.Grown.{lone_below}
 use Rattle.lx_emit.proofs.Resets.{reset_stmt_put}
 use Rattle.lx_emit.proofs.blocks.put_reset_stmt.Goals as goal
 
+pub add_stmt-requires-clause-below : goal.add_stmt-requires-clause-below
+add_stmt-requires-clause-below c = lone_below _ _ _ _ _ _ c.in_ok-assign.ensures c.in_ok-so.ensures c.in_ok-cond.ensures.grows
+
 pub returns : goal.returns
-returns c = if_both c.add_stmt.result _ _ _ (λ i p q. reset_stmt_put _ _ _ _ _ _ _ _ _ _ c.args.sheet.now.design c.args.sheet.now.names c.args.x.0 c.args.reset _ c.in_ok-assign.ensures c.in_ok-so.ensures c.in_ok-name.ensures c.lower.ensures c.in_ok-cond.ensures p q) c.add_stmt.ensures.ok c.add_stmt.ensures.placed
+returns c = if_ok c.add_stmt.result _ _ (λ i p. reset_stmt_put _ _ _ _ _ _ _ _ c.args.sheet.now.design c.args.sheet.now.names c.args.x.0 c.args.reset _ c.in_ok-assign.ensures c.in_ok-so.ensures c.in_ok-name.ensures c.in_ok-cond.ensures p) c.add_stmt.ensures.ok

@@ -5,4 +5,4 @@ use Rattle.lx_emit.specs.Tables.{PutParts}
 use Rattle.lx_emit.proofs.exprs.put_parts.Given as goal
 
 abbrev pub invariant-loop-place : goal.invariant-loop-place
-invariant-loop-place l = PutParts l.initial.out l.out l.texts (parts_onto (operand l.sheet.design l.sheet.names) (drop l.place l.parts) tree.NoMore)
+invariant-loop-place l = PutParts l.initial.nodes l.nodes l.texts (parts_onto (operand l.sheet.design l.sheet.names) (drop l.place l.parts) tree.NoMore)

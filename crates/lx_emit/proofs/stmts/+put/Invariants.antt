@@ -19,4 +19,4 @@ abbrev pub decreases-put_stmts : goal.decreases-put_stmts
 decreases-put_stmts l = 5 * l.bound
 
 abbrev pub invariant-put_stmts-loop-id : goal.invariant-put_stmts-loop-id
-invariant-put_stmts-loop-id l = PutStmts l.initial.exprs l.exprs l.initial.stmts l.stmts l.initial.after l.after (texts_of (stmt_text l.sheet.design l.sheet.names l.blocking) (take l.id-index l.ids))
+invariant-put_stmts-loop-id l = PutStmts l.initial.nodes l.nodes l.initial.after l.after (texts_of (stmt_text l.sheet.design l.sheet.names l.blocking) (take l.id-index l.ids))

@@ -4,4 +4,4 @@ use Rattle.lx_emit.specs.Writes.{port_in}
 use Rattle.lx_emit.proofs.writes.put_body.Given as goal
 
 abbrev pub invariant-loop-place : goal.invariant-loop-place
-invariant-loop-place l = PutStmts l.initial.exprs l.exprs l.initial.stmts l.stmts l.initial.list l.list (flat_map (port_in l.sheet l.k) (take l.place l.sheet.design.ports))
+invariant-loop-place l = PutStmts l.initial.nodes l.nodes l.initial.list l.list (flat_map (port_in l.sheet l.k) (take l.place l.sheet.design.ports))

@@ -4,4 +4,4 @@ use Rattle.lx_emit.proofs.Lines.{pieces}
 use Rattle.lx_emit.proofs.writes.put_memories.Given as goal
 
 abbrev pub invariant-loop-k : goal.invariant-loop-k
-invariant-loop-k l = PutAlways l.initial.exprs l.exprs l.initial.stmts l.stmts l.initial.blocks l.blocks (pieces (memory_always_in l.sheet) l.sheet.design.memories l.k)
+invariant-loop-k l = PutAlways l.initial.nodes l.nodes l.initial.blocks l.blocks (pieces (memory_always_in l.sheet) l.sheet.design.memories l.k)

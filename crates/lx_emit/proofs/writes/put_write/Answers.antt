@@ -14,10 +14,10 @@ pub returns-then-is_full : goal.returns-then-is_full
 returns-then-is_full c =
     let bits = ap (λ a. a.bits) (rw (← c.sheet.view_is) at c.shape_of_signal.ensures) in
     let full = write_full (plan c.sheet.inside.design.now c.sheet.inside.names.now) c.args.write _ _ c.at.ensures bits (sym c.is_full.ensures ∙ c.if-is_full.true) in
-    rw (← c.sheet.view_is) (stmts_as c.put_parts.result _ _ _ _ _ _ _ full (rw (← c.sheet.view_is) at c.put_parts.ensures))
+    rw (← c.sheet.view_is) (stmts_as c.put_parts.result _ _ _ _ _ full (rw (← c.sheet.view_is) at c.put_parts.ensures))
 
 pub returns : goal.returns
 returns c =
     let bits = ap (λ a. a.bits) (rw (← c.sheet.view_is) at c.shape_of_signal.ensures) in
     let bounded = write_bounded (plan c.sheet.inside.design.now c.sheet.inside.names.now) c.args.write _ _ c.at.ensures bits (sym c.is_full.ensures ∙ c.if-is_full.false) in
-    rw (← c.sheet.view_is, c.in_ok-push.ensures.ok) (stmts_is _ _ _ _ _ _ _ _ bounded (one_stmt _ _ _ _ _ _ _ c.requires.placed c.requires.list (rw (← c.sheet.view_is) at c.in_ok-bounded.ensures)))
+    rw (← c.sheet.view_is, c.in_ok-push.ensures.ok) (stmts_is _ _ _ _ _ _ bounded (one_stmt _ _ _ _ _ c.requires.list (rw (← c.sheet.view_is) at c.in_ok-bounded.ensures)))
