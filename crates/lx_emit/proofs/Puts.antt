@@ -1,6 +1,6 @@
 -- Expressions that are put among nodes one after the other.
 use Rattle.std.proofs.Common.{◌≡◌, ℕ, zero, suc, ◌+◌, ◌<◌, ◌≤◌, true, drop, get_or, take, nat_lt, ◌-◌, ltb-true, lt-ltb, List, [], ◌∷◌, ◌++◌, length, refl, sym, ap, subst, ◌∙◌, arith}
-use Rattle.std.specs.Prelude.{Result, Ok, Err, IfOk, OnOk, IsTrue}
+use Rattle.std.specs.Prelude.{Result, Ok, Err, IfOk, IsTrue}
 use Rattle.std.proofs.Math.Seq.{take-suc, take-length}
 use Rattle.lx_arena.specs.declared.Id.{Id}
 use Rattle.lx_vtext.specs.Tree as tree

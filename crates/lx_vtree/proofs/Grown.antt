@@ -1,5 +1,5 @@
 -- Expressions and statements that grow: the trees that hung there stay.
-use Rattle.std.proofs.Common.{◌≡◌, ℕ, ◌<◌, ◌≤◌, List, [], ◌∷◌, ◌++◌, length, IsTrue, slice_get, refl, ap, ◌∙◌, arith}
+use Rattle.std.proofs.Common.{ℕ, List, [], ◌∷◌, ◌++◌, length, IsTrue, slice_get, refl, ap, ◌∙◌, arith}
 use Rattle.lx_arena.specs.Lower.{EachLower}
 use Rattle.lx_vtext.specs.Tree as tree
 use Rattle.lx_vtree.specs.declared.nodes.VExpr.{VExpr}
