@@ -1,6 +1,6 @@
 -- Designs whose signals take the inverse of one input: what is added can be added, and the whole can be written.
-use Rattle.std.proofs.Common.{◌≡◌, ℕ, zero, suc, ◌+◌, ◌<◌, ◌≤◌, Bool, true, false, ◌&&◌, ◌||◌, List, [], ◌∷◌, ◌++◌, length, refl, sym, ap, subst, ◌∙◌, arith, length-append, le-leb, lt-ltb, inl, inr, nat_eq, nat_lt}
-use Rattle.std.specs.Prelude.{None, max, pos}
+use Rattle.std.proofs.Common.{◌≡◌, ℕ, zero, suc, ◌+◌, ◌<◌, ◌≤◌, Bool, true, false, ◌&&◌, ◌||◌, List, [], ◌∷◌, ◌++◌, length, refl, sym, ap, subst, ◌∙◌, arith, length-append, lt-ltb, inl, inr, nat_eq, nat_lt}
+use Rattle.std.specs.Prelude.{max, pos}
 use Rattle.std.proofs.lemmas.Nat.{pow_pos}
 use Rattle.lx_num.specs.Ints.{unsigned}
 use Rattle.lx_num.proofs.Ranges.{fits_pos}
@@ -10,7 +10,7 @@ use Rattle.lx_tables.specs.declared.operators.Op.TheVariants as op
 use Rattle.lx_circuit.specs.Places.{Place, At, Word, Kept, is_at}
 use Rattle.lx_circuit.specs.Terms as term
 use Rattle.lx_circuit.specs.Terms.{Term}
-use Rattle.lx_circuit.specs.Shapes.{fault_of, too_wide}
+use Rattle.lx_circuit.specs.Shapes.{fault_of}
 use Rattle.lx_circuit.specs.Statements as tree
 use Rattle.lx_circuit.specs.Statements.{drives_block}
 use Rattle.lx_circuit.specs.Circuit as circuit
@@ -35,6 +35,7 @@ use Rattle.lx_fhdl.specs.declared.design.Domain.{Domain}
 use Rattle.lx_fhdl.specs.declared.design.Port.{Port}
 use Rattle.lx_fhdl.specs.declared.design.Design.{Design}
 use Rattle.lx_fhdl.proofs.Drafts.{draft_small, stays_same, stays_then}
+use Rattle.lx_fhdl.proofs.Operators.{narrow}
 use Rattle.lx_emission.specs.Naming.{NamesFit}
 use Rattle.lx_emission.specs.Emits.{MemoriesFit, PortsFit}
 use Rattle.lx_emission.proofs.Instances.{order_by}
@@ -73,9 +74,6 @@ grew_then x y z g h = record { signals = h.signals ∙ g.signals; memories = h.m
 
 pub can_add_input : (d : Design) (x : SigId) → x.0 < length d.signals → CanAddExpr d (expr.Sig x)
 can_add_input d x l = record { below = refl; shaped = refl; operands = tt; parts = tt; named = l; index = tt }
-
-narrow : (n : ℕ) → n ≤ 127 → too_wide n ≡ None
-narrow n most = rw (le-leb n 127 most) refl
 
 pub can_add_inverse : (d : Design) (i : ExprId) → DraftKeeps d → IsInput d i.place → CanAddExpr d (expr.Unary op.Not i)
 can_add_inverse d i keep input = record {

@@ -2,8 +2,9 @@
 use Rattle.std.proofs.Common.{◌≡◌, ℕ, zero, suc, ◌+◌, ◌<◌, ◌≤◌, Bool, true, false, not, ◌&&◌, ◌||◌, List, [], ◌∷◌, ◌++◌, length, refl, sym, ap, ◌∙◌, arith, length-append}
 use Rattle.std.specs.List.{list_all, list_any}
 use Rattle.std.specs.Str.{bytes_eq}
-use Rattle.std.proofs.lemmas.Bool.{and_parts, and_from}
+use Rattle.std.proofs.lemmas.Bool.{and_parts, and_from, or_from, not-true}
 use Rattle.std.proofs.lemmas.List.Folds.{list_all-append, list_any-append}
+use Rattle.std.proofs.lemmas.Slice.Eq.{bytes_eq-Decides}
 use Rattle.lx_vtext.specs.Tree.{Name}
 use Rattle.lx_vtext.specs.Names.{is_name}
 use Rattle.lx_vtext.specs.Printed.{number_text}
@@ -12,7 +13,7 @@ use Rattle.lx_vtext.proofs.Pieces.{number_back}
 use Rattle.lx_fhdl.specs.Keeping.{is_distinct}
 use Rattle.lx_emission.specs.Naming.{is_among, node_name}
 use Rattle.lx_emission.proofs.Lawful.{dollar_lawful}
-use Rattle.lx_emission.proofs.Lists.{name_other, name_same, same_name}
+use Rattle.lx_emission.proofs.Lists.{name_other}
 use Rattle.lx_bench.specs.Fans.{AreNames, spelled}
 
 spelled_once : (a b : ℕ) → spelled a ≡ spelled b → a ≡ b
@@ -29,16 +30,13 @@ not_node : (k x : ℕ) → bytes_eq (node_name k) (spelled x) ≡ false
 unfolding node_name spelled
 not_node k x = refl
 
-neither : (a b : Bool) → a ≡ false → b ≡ false → (a || b) ≡ false
-neither a b p q = rw (p, q) refl
-
 -- a name that is none of the others, at their end
 not_last : (n m : Name) (ms : List Name) → is_among n (m ∷ ms) ≡ false → bytes_eq m n ≡ false
 not_last n m ms h = by (bytes_eq n m) refl h
   where
     by : (b : Bool) → bytes_eq n m ≡ b → (b || is_among n ms) ≡ false → bytes_eq m n ≡ false
     by true e g = absurd cc
-    by false e g = name_other m n (λ s. let t : bytes_eq n m ≡ true = name_same n m (sym s) in cc)
+    by false e g = name_other m n (λ s. let t : bytes_eq n m ≡ true = (bytes_eq-Decides n m).1 (sym s) in cc)
 
 not_rest : (n m : Name) (ms : List Name) → is_among n (m ∷ ms) ≡ false → is_among n ms ≡ false
 not_rest n m ms h = by (bytes_eq n m) h
@@ -48,18 +46,14 @@ not_rest n m ms h = by (bytes_eq n m) h
     by false g = g
 
 among_more : (k n : Name) (ns : List Name) → is_among k ns ≡ false → bytes_eq k n ≡ false → is_among k (ns ++ n ∷ []) ≡ false
-among_more k n ns h e = list_any-append (bytes_eq k) ns (n ∷ []) ∙ neither (is_among k ns) (bytes_eq k n || false) h (neither (bytes_eq k n) false e refl)
+among_more k n ns h e = list_any-append (bytes_eq k) ns (n ∷ []) ∙ or_from (is_among k ns) (bytes_eq k n || false) h (or_from (bytes_eq k n) false e refl)
 
 distinct_more : (n : Name) (ns : List Name) → is_distinct ns ≡ true → is_among n ns ≡ false → is_distinct (ns ++ n ∷ []) ≡ true
 distinct_more n [] h e = refl
 distinct_more n (m ∷ ms) h e =
     let p = and_parts (not (is_among m ms)) (is_distinct ms) h in
-    let none : is_among m (ms ++ n ∷ []) ≡ false = among_more m n ms (is_not_true (is_among m ms) p.0) (not_last n m ms e) in
+    let none : is_among m (ms ++ n ∷ []) ≡ false = among_more m n ms (not-true (is_among m ms) p.0) (not_last n m ms e) in
     and_from (not (is_among m (ms ++ n ∷ []))) (is_distinct (ms ++ n ∷ [])) (ap (λ b. not b) none) (distinct_more n ms p.1 (not_rest n m ms e))
-  where
-    is_not_true : (b : Bool) → not b ≡ true → b ≡ false
-    is_not_true true g = absurd cc
-    is_not_true false g = refl
 
 pub names_none : AreNames [] 0
 names_none = record { long = refl; lawful = refl; distinct = refl; nodes = λ k. refl; others = λ x l. refl }

@@ -6,6 +6,7 @@ use Rattle.lx_circuit.specs.Statements as tree
 use Rattle.lx_circuit.specs.Reads as circuit
 use Rattle.lx_vtext.specs.Tree.{Name, VStmt, When, VBlock, EndBlock}
 use Rattle.lx_vmeaning.specs.Loops.{reads, stmt_reads, else_reads, block_reads}
+use Rattle.lx_vmeaning.proofs.Frames.{some_of}
 use Rattle.lx_fhdl.specs.Below.{StmtId, all_stmts_below}
 use Rattle.lx_fhdl.specs.Stmts.{block_at}
 use Rattle.lx_fhdl.specs.Designs.{term, stmt, block}
@@ -16,7 +17,6 @@ use Rattle.lx_emission.specs.Nodes.{operand}
 use Rattle.lx_emission.specs.Signals.{own}
 use Rattle.lx_emission.specs.Texts.{block_onto, else_text, stmt_text}
 use Rattle.lx_emission.proofs.Blocks.{text_holds, by_choice}
-use Rattle.lx_emission.proofs.Pieces.{by_either}
 
 -- a name is read by the text of an expression, whose signals x reads in these statements
 pub record TextReads (d : Design) (names : List Name) (x : ℕ) (ids : List StmtId) (n : Name) : Type 0 where
@@ -61,7 +61,7 @@ list_reads d names x n s g h (i ∷ is) plain end e =
     let here = λ (y : ℕ). circuit.reads x (At y) (s i.place) in
     let later = λ (y : ℕ). circuit.reads_block x (At y) (block_at s is) in
     let all = λ (y : ℕ). here y || later y in
-    by_either (stmt_reads n (g i.place)) (block_reads n (block_onto g is end)) e
+    some_of (stmt_reads n (g i.place)) (block_reads n (block_onto g is end)) e
     (λ f. inr (wider d names n here all (λ y r. or_left (here y) (later y) r) ((h i.place p.0).reads f)))
     (λ f. elim (list_reads d names x n s g h is p.1 end f) [
       | inl k ↦ inl k
@@ -100,10 +100,10 @@ when_reads d names x n s g k body rest l h p q some =
     record {
       drives = or_none (tree.drives_block x (block_at s body)) (tree.drives_block x (block_at s rest)) ∙ driven;
       reads = λ e.
-          by_either (reads n (operand d names k)) (block_reads n (block_onto g body EndBlock) || else_reads n (else_text g rest)) e
+          some_of (reads n (operand d names k)) (block_reads n (block_onto g body EndBlock) || else_reads n (else_text g rest)) e
           (λ f. record { place = k; within = l; read = f; signals = λ y r. or_left (on y) (so y || other y) (and_from (circuit.names (At y) (term d k)) drives r driven) })
           (λ f.
-          by_either (block_reads n (block_onto g body EndBlock)) (else_reads n (else_text g rest)) f
+          some_of (block_reads n (block_onto g body EndBlock)) (else_reads n (else_text g rest)) f
           (λ r. wider d names n so all (λ y t. or_right (on y) (so y || other y) (or_left (so y) (other y) t)) (read_here (list_reads d names x n s g h body p EndBlock r)))
           (λ r. wider d names n other all (λ y t. or_right (on y) (so y || other y) (or_right (so y) (other y) t)) (else_reads_by d names x n s g h rest q r)));
     }
@@ -140,7 +140,7 @@ own_reads d x y [] e = e
 own_reads d x y (i ∷ is) e =
     by_choice (λ ks. circuit.reads_block x y (block d ks) ≡ true → circuit.reads_block x y (block d (i ∷ is)) ≡ true) (tree.drives x (stmt d i.place)) (i ∷ own d x is) (own d x is)
     (λ h f.
-    by_either (circuit.reads x y (stmt d i.place)) (circuit.reads_block x y (block d (own d x is))) f
+    some_of (circuit.reads x y (stmt d i.place)) (circuit.reads_block x y (block d (own d x is))) f
     (λ r. or_left (circuit.reads x y (stmt d i.place)) (circuit.reads_block x y (block d is)) r)
     (λ r. or_right (circuit.reads x y (stmt d i.place)) (circuit.reads_block x y (block d is)) (own_reads d x y is r)))
     (λ h f. or_right (circuit.reads x y (stmt d i.place)) (circuit.reads_block x y (block d is)) (own_reads d x y is f))

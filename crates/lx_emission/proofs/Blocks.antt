@@ -4,6 +4,7 @@ use Rattle.std.specs.Prelude.{Option, Some, None, slice_get, IfSome, nat_le, nat
 use Rattle.std.specs.Str.{bytes_eq}
 use Rattle.std.proofs.lemmas.Bool.{and_parts, and_from, eqb-true, le-leb, lt-ltb}
 use Rattle.std.proofs.lemmas.Option.{slice_get_within}
+use Rattle.std.proofs.lemmas.Slice.Eq.{bytes_eq-Decides}
 use Rattle.lx_circuit.specs.Statements as tree
 use Rattle.lx_circuit.specs.Circuit as circuit
 use Rattle.lx_circuit.specs.Circuit.{Role, sync_role, read_role, idle_role, role, made}
@@ -40,7 +41,6 @@ use Rattle.lx_emission.proofs.Setting.{LetsRead, IsFit, OperandsFit, SetsAlone}
 use Rattle.lx_arena.specs.Folds.{fold_at}
 use Rattle.lx_emission.proofs.Levels.{target_within, target_of, stmt_of, stmt_within, stmt_text_of, stmt_text_within}
 use Rattle.lx_emission.proofs.Pieces.{own_for, own_some, own_below}
-use Rattle.lx_emission.proofs.Lists.{name_same}
 use Rattle.lx_fhdl.proofs.Resets.{each_of_at}
 
 -- ---- one statement for x, and its text
@@ -270,7 +270,7 @@ text_fits d names m now x keeps lets operands register lt ids plain end e = reco
       (λ c k l. bits_widths d names m x keeps lets lt c (operand d names k) (operands.each k l))
       ids plain end e.widths;
   fits = texts_pass (fits_test (net names x) now) d names now x keeps (λ k l. refl)
-      (λ c k l. and_from (bytes_eq (target_name (bits_text d (net names x) x c)) (net names x)) (if now then now else not now) (ap (λ z. bytes_eq z (net names x)) (bits_name d (net names x) x c) ∙ name_same (net names x) (net names x) refl) (now_fits now))
+      (λ c k l. and_from (bytes_eq (target_name (bits_text d (net names x) x c)) (net names x)) (if now then now else not now) (ap (λ z. bytes_eq z (net names x)) (bits_name d (net names x) x c) ∙ (bytes_eq-Decides (net names x) (net names x)).1 refl) (now_fits now))
       ids plain end e.fits;
 }
 
@@ -455,7 +455,7 @@ reset_fits d names m x keeps lets lt register reset (Some r) reads =
     record {
       names = rw (on.names, register, reset.names) refl;
       widths = rw (alone_from_owns (sizes m) (Net (net names r.0)) on.widths, right) refl;
-      fits = rw (name_same (net names x) (net names x) refl) refl;
+      fits = rw ((bytes_eq-Decides (net names x) (net names x)).1 refl) refl;
     })
 
 -- an always block that may stand in the module
@@ -474,7 +474,7 @@ comb_fits d names m x keeps low lets operands register lt reset ids e =
     record {
       names = rw (register, reset.names) rest.names;
       widths = rw right rest.widths;
-      fits = rw (name_same (net names x) (net names x) refl) rest.fits;
+      fits = rw ((bytes_eq-Decides (net names x) (net names x)).1 refl) rest.fits;
     }
 
 -- so may the clocked block for x

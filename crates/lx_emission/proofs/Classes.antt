@@ -3,6 +3,8 @@ use Rattle.std.proofs.Common.{◌≡◌, ℕ, zero, suc, ◌<◌, ◌≤◌, ◌
 use Rattle.std.specs.Prelude.{Some, None, slice_get, IsTrue}
 use Rattle.std.specs.Str.{bytes_eq}
 use Rattle.std.proofs.lemmas.Bool.{cases_eq}
+use Rattle.std.proofs.lemmas.Slice.Eq.{bytes_eq-Decides}
+use Rattle.std.proofs.lemmas.Bool.Decides.{not_from_Decides}
 use Rattle.lx_vtext.specs.Tree.{Name, VNet, VPort, VDecl, NetDecl, MemoryDecl, VMemory}
 use Rattle.lx_vmeaning.specs.Runs.{decl_nets, decl_memories, all_nets, net_named, memory_named}
 use Rattle.lx_vmeaning.specs.Naming.{are_new, decl_name, declared_names}
@@ -14,7 +16,7 @@ use Rattle.lx_emission.specs.Signals.{signal_net}
 use Rattle.lx_emission.specs.Emission.{ports_of, is_port, is_net_node, inner_decl, memory_decls, node_decl, decls_of, places_from, emitted}
 use Rattle.lx_emission.specs.Memories.{memory_decl}
 use Rattle.lx_emission.specs.Emits.{PortsFit}
-use Rattle.lx_emission.proofs.Lists.{same_name, name_same, name_other, names_differ, first_of_two, second_of_two, none_at_places, called, is_once, distinct_from_once, collects_memories}
+use Rattle.lx_emission.proofs.Lists.{name_other, first_of_two, second_of_two, none_at_places, called, is_once, distinct_from_once, collects_memories}
 use Rattle.lx_emission.proofs.Names.{memory_once}
 use Rattle.lx_emission.proofs.Setting.{IsNetNode}
 use Rattle.lx_emission.proofs.Lists.{matching, collects_matching, matching_called, names_of, names_of_three, none_of_three, once_named, map_append_three, join_parts}
@@ -47,7 +49,7 @@ search_below P test (suc n) = elim (test n) [
 ]
 
 is_same : (n m : Name) → (n ≡ m) ⊎ (n ≡ m → ⊥)
-is_same n m = by_test (bytes_eq n m) (λ t. inl (same_name n m t)) (λ t. inr (names_differ n m t))
+is_same n m = by_test (bytes_eq n m) (λ t. inl ((bytes_eq-Decides n m).0 t)) (λ t. inr (not_from_Decides (bytes_eq n m) (bytes_eq-Decides n m) t))
 
 node_here : (d : Design) (n : Name) (k : ℕ) → (IsNetNode d k × (n ≡ node_net d.exprs k)) ⊎ (IsNetNode d k × (n ≡ node_net d.exprs k) → ⊥)
 node_here d n k =
@@ -124,9 +126,9 @@ named_here : {T : Type 0} (f : ℕ → VMemory) (n : Name) (j k : ℕ) (xs : Lis
     → memory_named n (map f (places_from k xs)) ≡ Some (f j)
 named_here f n j k [] low high e once = absurd (omega arith)
 named_here f n j k (x ∷ xs) low high e once = by_test (bytes_eq (f k).name n)
-    (λ t. let same = once k (omega arith) (omega arith) (same_name (f k).name n t) in rw t (ap (λ (i : ℕ). Some (f i)) same))
+    (λ t. let same = once k (omega arith) (omega arith) ((bytes_eq-Decides (f k).name n).0 t) in rw t (ap (λ (i : ℕ). Some (f i)) same))
     (λ t.
-    let other : k ≡ j → ⊥ = λ s. names_differ (f k).name n t (ap (λ (i : ℕ). (f i).name) s ∙ e) in
+    let other : k ≡ j → ⊥ = λ s. not_from_Decides (bytes_eq (f k).name n) (bytes_eq-Decides (f k).name n) t (ap (λ (i : ℕ). (f i).name) s ∙ e) in
     rw t (named_here f n j (k + 1) xs (omega (arith, other)) (omega arith) e (λ i p q. once i (omega arith) (omega arith))))
 
 pub memory_of_name : (d : Design) (names : List Name) → NamesFit d names → (k : ℕ) → k < length d.memories → memory_named (memory_name d names k) (decl_memories (emitted d names).decls) ≡ Some (the_memory d names k)
@@ -191,7 +193,7 @@ one_matches f j k (x ∷ xs) low high once = elim (cases_eq k j) [
   | inl same ↦
       let here : f k ≡ f j = ap f same in
       let rest = none_matches f (f j) (k + 1) xs (λ i p q e. let s = once i (omega arith) e in omega (arith, s, same, p)) in
-      rw (name_same (f k) (f j) here) (ap (λ t. t ∷ matching (f j) (map f (places_from (k + 1) xs))) here ∙ ap (λ t. f j ∷ t) rest)
+      rw ((bytes_eq-Decides (f k) (f j)).1 here) (ap (λ t. t ∷ matching (f j) (map f (places_from (k + 1) xs))) here ∙ ap (λ t. f j ∷ t) rest)
   | inr other ↦
       rw (name_other (f k) (f j) (λ e. other (once k (omega arith) e))) (one_matches f j (k + 1) xs (omega (arith, other)) (omega arith) (λ i q. once i (omega arith)))
 ]

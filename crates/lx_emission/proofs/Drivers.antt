@@ -2,6 +2,7 @@
 use Rattle.std.proofs.Common.{◌≡◌, ℕ, ◌<◌, ◌+◌, Bool, true, false, ◌&&◌, cond, List, [], ◌∷◌, ◌++◌, length, flat_map, refl, ap, ◌∙◌, arith}
 use Rattle.std.specs.Prelude.{Option, Some, None, slice_get}
 use Rattle.std.proofs.lemmas.List.{append-nil}
+use Rattle.std.proofs.lemmas.Slice.Eq.{bytes_eq-Decides}
 use Rattle.lx_circuit.specs.Statements.{drives_block}
 use Rattle.lx_circuit.specs.Circuit as circuit
 use Rattle.lx_vtext.specs.Tree.{Name}
@@ -17,7 +18,7 @@ use Rattle.lx_emission.specs.Signals.{Drive, Input, Undriven, CombAssign, CombBl
 use Rattle.lx_emission.specs.Emission.{places_from, signal_port, is_input_drive, is_port, is_net_node, node_assign, emitted}
 use Rattle.lx_emission.specs.Memories.{memory_body, writing_domain, clocked, memory_always}
 use Rattle.lx_emission.specs.Emits.{PortsFit}
-use Rattle.lx_emission.proofs.Lists.{name_same, name_other, none_of_two, first_of_two, second_of_two, none_at_places, one_at_places, collects_outside, collects_assigns, collects_blocks}
+use Rattle.lx_emission.proofs.Lists.{name_other, none_of_two, first_of_two, second_of_two, none_at_places, one_at_places, collects_outside, collects_assigns, collects_blocks}
 use Rattle.lx_emission.proofs.Names.{node_net_once, net_once, memory_once}
 use Rattle.lx_emission.proofs.Roles.{read_other, idle_input}
 use Rattle.lx_emission.proofs.Setting.{IsNetNode, SetsAlone, WritesAlone, BlocksSetAlone, driver_by, clocked_drivers, memory_drivers}
@@ -78,7 +79,7 @@ node_assign_other d names n k ne = by (is_net_node (slice_get d.exprs k)) refl
 
 node_assign_own : (d : Design) (names : List Name) (k : ℕ) → IsNetNode d k → assign_drivers (node_net d.exprs k) (node_assign d names k) ≡ runs.ByAssign (node_text d names k) ∷ []
 unfolding node_assign
-node_assign_own d names k is = rw (net_node_is d k is, name_same (node_net d.exprs k) (node_net d.exprs k) refl) refl
+node_assign_own d names k is = rw (net_node_is d k is, (bytes_eq-Decides (node_net d.exprs k) (node_net d.exprs k)).1 refl) refl
 
 signal_assign_other : (d : Design) (names : List Name) (n : Name) (x : ℕ) → (net names x ≡ n → ⊥) → assign_drivers n (signal_assign d names x) ≡ []
 unfolding signal_assign
@@ -116,7 +117,7 @@ memory_own d names k alone = by (writing_domain k (circuit_of d).ports) alone
   where
     by : (o : Option ℕ) → WritesAlone d names k o → block_drivers (memory_name d names k) (clocked d (memory_body d names k) o) ≡ clocked_drivers d (memory_body d names k) o
     by None h = refl
-    by (Some x) h = rw (h (memory_name d names k), name_same (memory_name d names k) (memory_name d names k) refl) refl
+    by (Some x) h = rw (h (memory_name d names k), (bytes_eq-Decides (memory_name d names k) (memory_name d names k)).1 refl) refl
 
 blocks_parts : (d : Design) (names : List Name) (n : Name)
     → block_drivers n (emitted d names).always ≡ block_drivers n (flat_map (signal_always d names) (places_from 0 d.signals)) ++ block_drivers n (flat_map (memory_always d names) (places_from 0 d.memories))
@@ -182,7 +183,7 @@ parts_join d names x (Sync k body) = refl
 
 outside_own : (d : Design) (names : List Name) (x : ℕ) → outside_drivers (net names x) (signal_port d names x ∷ []) ≡ outside_part (drive d x)
 unfolding signal_net
-outside_own d names x = rw (name_same (net names x) (net names x) refl) (by (drive d x))
+outside_own d names x = rw ((bytes_eq-Decides (net names x) (net names x)).1 refl) (by (drive d x))
   where
     by : (r : Drive) → cond (is_input_drive r && true) (runs.Outside ∷ []) [] ≡ outside_part r
     by Input = refl
@@ -205,8 +206,8 @@ assign_own d names x = by (drive d x)
   where
     by : (r : Drive) → assign_drivers (net names x) (assign_by d names x r) ≡ assign_part d names x r
     by Input = refl
-    by Undriven = rw (name_same (net names x) (net names x) refl) refl
-    by (CombAssign value) = rw (name_same (net names x) (net names x) refl) refl
+    by Undriven = rw ((bytes_eq-Decides (net names x) (net names x)).1 refl) refl
+    by (CombAssign value) = rw ((bytes_eq-Decides (net names x) (net names x)).1 refl) refl
     by (CombBlock body) = refl
     by (Sync k body) = refl
 
@@ -218,8 +219,8 @@ block_own d names x alone = by (drive d x) alone
     by Input h = refl
     by Undriven h = refl
     by (CombAssign value) h = refl
-    by (CombBlock body) h = rw (h (net names x), name_same (net names x) (net names x) refl) refl
-    by (Sync k body) h = rw (h (net names x), name_same (net names x) (net names x) refl) refl
+    by (CombBlock body) h = rw (h (net names x), (bytes_eq-Decides (net names x) (net names x)).1 refl) refl
+    by (Sync k body) h = rw (h (net names x), (bytes_eq-Decides (net names x) (net names x)).1 refl) refl
 
 outside_signal : (d : Design) (names : List Name) → Keeps d → NamesFit d names → PortsFit d → (x : ℕ) → x < length d.signals → outside_drivers (net names x) (emitted d names).ports ≡ outside_part (drive d x)
 unfolding emitted

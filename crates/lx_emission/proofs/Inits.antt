@@ -5,6 +5,7 @@ use Rattle.std.specs.List.{list_all, range_with_len, AllByRecursion}
 use Rattle.std.specs.Str.{bytes_eq}
 use Rattle.std.proofs.lemmas.Bool.{and_from, eq-eqb, ne_eqb, cases_eq}
 use Rattle.std.proofs.lemmas.Nat.{pow_pos, mod_below}
+use Rattle.std.proofs.lemmas.Slice.Eq.{bytes_eq-Decides}
 use Rattle.lx_num.proofs.Ints.{modulo-small}
 use Rattle.lx_num.proofs.Ranges.{fits_pos}
 use Rattle.lx_circuit.specs.Memories.{Memory}
@@ -17,7 +18,7 @@ use Rattle.lx_vmeaning.specs.Runs.{set_value, first_word, literal_value}
 use Rattle.lx_vmeaning.specs.Blocks.{sets_in_order, begins_with, blocks_of, is_full_block, init_fits}
 use Rattle.lx_emission.specs.Emission.{places_from}
 use Rattle.lx_emission.specs.Memories.{memory_decl, set_line, first_words}
-use Rattle.lx_emission.proofs.Lists.{name_same, name_other, each_counted, all_from_each}
+use Rattle.lx_emission.proofs.Lists.{name_other, each_counted, all_from_each}
 use Rattle.lx_emission.proofs.Operands.{cut_exact}
 use Rattle.lx_tie.proofs.Leaves.{exact_leaf}
 
@@ -48,7 +49,7 @@ one_target : (n : Name) (x : Memory) (c : ℕ) → 1 ≤ c → init_fits (lines 
 unfolding lines
 one_target n x zero h = absurd (omega arith)
 one_target n x (suc c) h =
-    all_from_each (λ (y : VSet). bytes_eq y.name n) (map (set_line n x) (range_with_len (0 + 1) c)) (each_counted (λ (y : VSet). bytes_eq y.name n ≡ true) (set_line n x) (0 + 1) c (λ k low high. name_same n n refl))
+    all_from_each (λ (y : VSet). bytes_eq y.name n) (map (set_line n x) (range_with_len (0 + 1) c)) (each_counted (λ (y : VSet). bytes_eq y.name n ≡ true) (set_line n x) (0 + 1) c (λ k low high. (bytes_eq-Decides n n).1 refl))
 
 -- all its lines have one target
 pub block_of_one : (n : Name) (x : Memory) → 1 ≤ x.depth → init_fits (first_words n x) ≡ true
@@ -59,7 +60,7 @@ in_order : (n : Name) (x : Memory) (a c : ℕ) → sets_in_order n a (map (set_l
 in_order n x a zero = refl
 in_order n x a (suc c) =
     let rest = sets_in_order n (a + 1) (map (set_line n x) (range_with_len (a + 1) c)) in
-    and_from (bytes_eq n n) (nat_eq a a && rest) (name_same n n refl) (and_from (nat_eq a a) rest (eq-eqb a a refl) (in_order n x (a + 1) c))
+    and_from (bytes_eq n n) (nat_eq a a && rest) ((bytes_eq-Decides n n).1 refl) (and_from (nat_eq a a) rest (eq-eqb a a refl) (in_order n x (a + 1) c))
 
 counted : (n : Name) (x : Memory) (a c : ℕ) → length (map (set_line n x) (range_with_len a c)) ≡ c
 counted n x a zero = refl
@@ -92,7 +93,7 @@ blocks_here n x bound j k [] are most low high = absurd (omega arith)
 blocks_here n x bound j k (y ∷ ys) are most low high = elim (cases_eq k j) [
   | inl same ↦
       let gone = blocks_gone n x (n j) (k + 1) ys (λ i p q. (are.some i (omega arith), λ e. let s = are.once i j (omega arith) (omega arith) e in omega (arith, s, same, p))) in
-      rw (begins (n j) (n k) (x k) (are.some k (omega arith)), name_same (n k) (n j) (ap n same))
+      rw (begins (n j) (n k) (x k) (are.some k (omega arith)), (bytes_eq-Decides (n k) (n j)).1 (ap n same))
       (ap (λ t. first_words (n k) (x k) ∷ t) gone ∙ ap (λ (i : ℕ). first_words (n i) (x i) ∷ []) same)
   | inr other ↦
       rw (begins (n j) (n k) (x k) (are.some k (omega arith)), name_other (n k) (n j) (λ e. other (are.once k j (omega arith) (omega arith) e)))
@@ -114,8 +115,8 @@ line_other m n x bits k a (suc c) other ne = rw (name_other n m ne) (line_other 
 line_own : (n : Name) (x : Memory) (bits k a c other : ℕ) → a ≤ k → k < a + c → set_value n bits k (map (set_line n x) (range_with_len a c)) other ≡ literal_value bits (set_line n x k).value
 line_own n x bits k a zero other low high = absurd (omega arith)
 line_own n x bits k a (suc c) other low high = elim (cases_eq a k) [
-  | inl same ↦ rw (name_same n n refl, eq-eqb a k same) (ap (λ (i : ℕ). literal_value bits (set_line n x i).value) same)
-  | inr ne ↦ rw (name_same n n refl, ne_eqb a k ne) (line_own n x bits k (a + 1) c other (omega (arith, ne)) (omega arith))
+  | inl same ↦ rw ((bytes_eq-Decides n n).1 refl, eq-eqb a k same) (ap (λ (i : ℕ). literal_value bits (set_line n x i).value) same)
+  | inr ne ↦ rw ((bytes_eq-Decides n n).1 refl, ne_eqb a k ne) (line_own n x bits k (a + 1) c other (omega (arith, ne)) (omega arith))
 ]
 
 block_other : (m n : Name) (x : Memory) (bits k other : ℕ) → (n ≡ m → ⊥) → set_value m bits k (first_words n x) other ≡ other

@@ -6,6 +6,7 @@ use Rattle.std.specs.Str.{bytes_eq}
 use Rattle.std.proofs.lemmas.Bool.{and_parts, and_from, or_left, or_right, false≢true, le-leb, lt-ltb}
 use Rattle.std.proofs.lemmas.Nat.{pow_pos, mod_below}
 use Rattle.std.proofs.lemmas.Option.{slice_get_within}
+use Rattle.std.proofs.lemmas.Slice.Eq.{bytes_eq-Decides}
 use Rattle.lx_num.specs.declared.Shape.{Shape}
 use Rattle.lx_num.specs.Ints.{modulo}
 use Rattle.lx_num.proofs.Ints.{modulo-below}
@@ -17,7 +18,7 @@ use Rattle.lx_vtext.specs.Tree as tree
 use Rattle.lx_vtext.specs.Tree.{Name, VExpr, VExprs, NoMore, More, Net, Literal}
 use Rattle.lx_vtext.specs.Printed.{number_text}
 use Rattle.lx_vtext.specs.Fits.{is_literal, IsExpr, AreExprs, IsValue}
-use Rattle.lx_vtext.proofs.Pieces.{number_back, bytes_eq_is}
+use Rattle.lx_vtext.proofs.Pieces.{number_back}
 use Rattle.lx_fhdl.specs.Below.{ExprId, expr_below}
 use Rattle.lx_fhdl.specs.Nodes.{IsSmall, EachPlace, EachChild}
 use Rattle.lx_fhdl.specs.Keeping.{is_first, is_later, is_identifier, Keeps}
@@ -63,7 +64,7 @@ word_has p word (w ∷ ws) h e =
     by_first (bytes_eq word w) refl q.0 (word_has p word ws q.1) e
   where
     by_first : (t : Bool) → bytes_eq word w ≡ t → p w ≡ true → (list_any (bytes_eq word) ws ≡ true → p word ≡ true) → (t || list_any (bytes_eq word) ws) ≡ true → p word ≡ true
-    by_first true same first rest e = ap (λ v. p v) (bytes_eq_is word w same) ∙ first
+    by_first true same first rest e = ap (λ v. p v) ((bytes_eq-Decides word w).0 same) ∙ first
     by_first false same first rest e = rest e
 
 -- a spelled word without what each keyword has is a name

@@ -3,9 +3,10 @@ use Rattle.std.proofs.Common.{◌≡◌, ℕ, zero, suc, ◌<◌, ◌≤◌, ◌
 use Rattle.std.specs.Prelude.{Option, Some, None, slice_get}
 use Rattle.std.specs.List.{list_all, list_any, range_with_len, AllByRecursion}
 use Rattle.std.specs.Str.{bytes_eq}
-use Rattle.std.proofs.lemmas.Bool.{and_parts, cases_eq, not-true}
+use Rattle.std.proofs.lemmas.Bool.{and_parts, cases_eq, not-true, false_from_ne_true}
 use Rattle.std.proofs.lemmas.List.{append-nil, map-append}
 use Rattle.std.proofs.lemmas.Slice.Eq.{bytes_eq-Decides}
+use Rattle.std.proofs.Math.Bool.{or-true}
 use Rattle.lx_vtext.specs.Tree.{Name, VNet, VPort, VDecl, NetDecl, MemoryDecl, VAssign, VAlways}
 use Rattle.lx_vmeaning.specs.Runs.{decl_nets, decl_memories, net_named, outside_drivers, assign_drivers, block_drivers, always_driver, sets_block, Driver, Outside, ByAssign}
 use Rattle.lx_vmeaning.specs.Naming as naming
@@ -13,37 +14,18 @@ use Rattle.lx_vmeaning.proofs.Declared.{is_among, are_distinct}
 use Rattle.lx_fhdl.specs.Keeping.{is_distinct}
 use Rattle.lx_emission.specs.Emission.{places_from}
 
--- ---- tests
-
-pub is_false : (b : Bool) → (b ≡ true → ⊥) → b ≡ false
-is_false true h = absurd (h refl)
-is_false false h = refl
-
 -- ---- names
 
-pub same_name : (n m : List ℕ) → bytes_eq n m ≡ true → n ≡ m
-same_name n m e = (bytes_eq-Decides n m).0 e
-
-pub name_same : (n m : List ℕ) → n ≡ m → bytes_eq n m ≡ true
-name_same n m e = (bytes_eq-Decides n m).1 e
-
 pub name_other : (n m : List ℕ) → (n ≡ m → ⊥) → bytes_eq n m ≡ false
-name_other n m ne = is_false (bytes_eq n m) (λ t. ne (same_name n m t))
-
-pub names_differ : (n m : List ℕ) → bytes_eq n m ≡ false → n ≡ m → ⊥
-names_differ n m e same = let t = name_same n m same in cc
+name_other n m ne = false_from_ne_true (bytes_eq n m) (λ t. ne ((bytes_eq-Decides n m).0 t))
 
 -- ---- distinct names
 
 -- a name at a place is among the names
 pub is_there : (n : List ℕ) (ns : List (List ℕ)) (k : ℕ) → slice_get ns k ≡ Some n → list_any (bytes_eq n) ns ≡ true
 is_there n [] k e = absurd cc
-is_there n (m ∷ ms) zero e = let same : n ≡ m = cc in rw (name_same n m same) refl
-is_there n (m ∷ ms) (suc k) e = rw (is_there n ms k e) (or_true (bytes_eq n m))
-  where
-    or_true : (b : Bool) → (b || true) ≡ true
-    or_true true = refl
-    or_true false = refl
+is_there n (m ∷ ms) zero e = let same : n ≡ m = cc in rw ((bytes_eq-Decides n m).1 same) refl
+is_there n (m ∷ ms) (suc k) e = rw (is_there n ms k e) (or-true (bytes_eq n m))
 
 -- a name stands at one place of a list of distinct names
 pub one_place : (ns : List (List ℕ)) → is_distinct ns ≡ true → (j k : ℕ) (n : List ℕ) → slice_get ns j ≡ Some n → slice_get ns k ≡ Some n → j ≡ k
@@ -290,7 +272,7 @@ not_among n (k ∷ ks) h = by (bytes_eq k n) h (not_among n ks)
 pub distinct_from_once : (ns : List Name) → ((n : Name) → is_once (matching n ns) ≡ true) → are_distinct ns ≡ true
 distinct_from_once [] h = refl
 distinct_from_once (n ∷ ns) h =
-    let own : is_once (n ∷ matching n ns) ≡ true = rw (name_same n n refl) at (h n) in
+    let own : is_once (n ∷ matching n ns) ≡ true = rw ((bytes_eq-Decides n n).1 refl) at (h n) in
     let none = not_among n ns (once_alone n (matching n ns) own) in
     rw none (distinct_from_once ns (λ k. by (bytes_eq n k) k (h k)))
   where

@@ -21,7 +21,7 @@ use Rattle.lx_emission.specs.Memories.{block_of, write_names, writes_text, port_
 use Rattle.lx_emission.specs.Emits.{IsWithFirst, MemoriesFit}
 use Rattle.lx_emission.proofs.Setting.{DeclaresNets, HasPatterns, SignalsFit, declared}
 use Rattle.lx_emission.proofs.Writers.{IsWriter, WritesWell, all_write}
-use Rattle.lx_emission.proofs.Writes.{PortStands, writes_run, runs_joined}
+use Rattle.lx_emission.proofs.Writes.{PortStands, writes_run, runs_joined, same_either}
 
 -- a memory with a word is one of the design
 there : (ms : List Memory) (k a : ℕ) → a < (slice_index_or (map memory_of ms) k no_memory).depth → k < length ms
@@ -52,10 +52,6 @@ port_stands d names s v w keeps declares has fits q u is = record {
   parts = is.parts;
 }
 
-same_either : (b : Bool) (x : ℕ) → x ≡ cond b x x
-same_either true x = refl
-same_either false x = refl
-
 -- the ports of a memory that write rise
 abbrev pub RisesWith : (ℕ → Bool) → ℕ → Port → Type 0
 RisesWith rises k q = writes_memory k q ≡ true → rises_in rises q.domain ≡ true
@@ -67,7 +63,7 @@ writer_runs d names s v w keeps declares has fits rises q well rise words a lt b
   where
     by : (o : Option Writer) → q.writer ≡ o
         → run_block_words s w (block_of (writes_text d names q o)) words a ≡ cond (rises_in rises q.domain && nat_eq (addressed v q) a) (laid_by v (memory_at d q.memory).width (words a) o) (words a)
-    by None e = same_either (rises_in rises q.domain && nat_eq (addressed v q) a) (words a)
+    by None e = sym (same_either (rises_in rises q.domain && nat_eq (addressed v q) a) (words a))
     by (Some u) e =
         let is = well u e in
         let m = memory_at d q.memory in
@@ -120,7 +116,7 @@ port_idle : (v : Values) (rises : ℕ → Bool) (k width a : ℕ) (q : Port) (p 
 port_idle v rises k width a q p idle = by q.writer refl
   where
     by : (o : Option Writer) → q.writer ≡ o → cond (writes_to v rises k a q) (laid_by v width p o) p ≡ p
-    by None e = sym (same_either (writes_to v rises k a q) p)
+    by None e = same_either (writes_to v rises k a q) p
     by (Some u) e =
         by_test (nat_eq q.memory k)
         (λ t. rw (t, idle (and_from (nat_eq q.memory k) (is_some q.writer) t (ap is_some e))) refl)

@@ -1,5 +1,5 @@
 -- What the taken assignments do to the pattern of one signal, and the statements of one signal alone.
-use Rattle.std.proofs.Common.{◌≡◌, ℕ, ℤ, zero, suc, ◌+◌, ◌^◌, ◌<◌, ◌≤◌, Bool, true, false, ◌&&◌, ◌||◌, List, [], ◌∷◌, length, nat_eq, nat_lt, not, cond, refl, sym, ◌∙◌, ap, subst, arith, eqb-true}
+use Rattle.std.proofs.Common.{◌≡◌, ℕ, ℤ, zero, suc, ◌+◌, ◌^◌, ◌<◌, ◌≤◌, Bool, true, false, ◌&&◌, List, [], ◌∷◌, length, nat_eq, nat_lt, not, cond, refl, sym, ◌∙◌, ap, subst, arith, eqb-true}
 use Rattle.std.specs.Prelude.{Option, Some, None, slice_get, IsTrue}
 use Rattle.std.proofs.lemmas.Bool.{and_parts, and_from}
 use Rattle.lx_num.specs.Ints.{modulo}
@@ -28,11 +28,7 @@ use Rattle.lx_arena.specs.Folds.{fold_at}
 use Rattle.lx_emission.proofs.Levels.{target_of, target_within, stmt_of, stmt_within}
 use Rattle.lx_circuit.proofs.Whole.{laid_whole}
 use Rattle.lx_circuit.proofs.Fitting.{laid_over_below}
-
--- what holds on either side of a test
-pub by_either : {P : Type 0} (a b : Bool) → (a || b) ≡ true → (a ≡ true → P) → (b ≡ true → P) → P
-by_either true b e f g = f refl
-by_either false b e f g = g e
+use Rattle.lx_vmeaning.proofs.Frames.{some_of}
 
 true_of : (b : Bool) → IsTrue b → b ≡ true
 true_of b h = h
@@ -136,20 +132,20 @@ mutual
   driven_is x y (tree.If bs rest) e f =
       let p = and_parts (is_lone bs rest) (branches_are_for y bs && are_for y rest) e in
       let q = and_parts (branches_are_for y bs) (are_for y rest) p.1 in
-      by_either (drives_branch x bs) (drives_block x rest) f (branches_driven_are x y bs q.0) (block_driven_is x y rest q.1)
+      some_of (drives_branch x bs) (drives_block x rest) f (branches_driven_are x y bs q.0) (block_driven_is x y rest q.1)
   driven_is x y (tree.Case on arms rest) e f = absurd (cc)
 
   branches_driven_are : (x y : ℕ) (bs : tree.Branches) → branches_are_for y bs ≡ true → drives_branch x bs ≡ true → y ≡ x
   branches_driven_are x y tree.NoBranch e f = absurd (cc)
   branches_driven_are x y (tree.Branch c b more) e f =
       let p = and_parts (are_for y b) (branches_are_for y more) e in
-      by_either (drives_block x b) (drives_branch x more) f (block_driven_is x y b p.0) (branches_driven_are x y more p.1)
+      some_of (drives_block x b) (drives_branch x more) f (block_driven_is x y b p.0) (branches_driven_are x y more p.1)
 
   block_driven_is : (x y : ℕ) (b : tree.Block) → are_for y b ≡ true → drives_block x b ≡ true → y ≡ x
   block_driven_is x y tree.Done e f = absurd (cc)
   block_driven_is x y (tree.Then st ss) e f =
       let p = and_parts (is_for y st) (are_for y ss) e in
-      by_either (drives x st) (drives_block x ss) f (driven_is x y st p.0) (block_driven_is x y ss p.1)
+      some_of (drives x st) (drives_block x ss) f (driven_is x y st p.0) (block_driven_is x y ss p.1)
 
 driven_is_for : (x : ℕ) (st : tree.Stmt) → IsPlain st → drives x st ≡ true → is_for x st ≡ true
 driven_is_for x st plain e = subst (λ (y : ℕ). is_for y st ≡ true) (driven_is x plain.signal st (true_of (is_for plain.signal st) plain.alone) e) (true_of (is_for plain.signal st) plain.alone)
@@ -188,7 +184,7 @@ own_some d x [] e = absurd (cc)
 own_some d x (i ∷ is) e =
     by_test (drives x (stmt d i.place))
     (λ f. rw f (omega arith))
-    (λ f. rw f (own_some d x is (by_either (drives x (stmt d i.place)) (drives_block x (block d is)) e (λ t. absurd (cc)) (λ t. t))))
+    (λ f. rw f (own_some d x is (some_of (drives x (stmt d i.place)) (drives_block x (block d is)) e (λ t. absurd (cc)) (λ t. t))))
 
 -- ---- one whole assignment
 

@@ -4,6 +4,8 @@ use Rattle.std.specs.Prelude.{Some, slice_get, slice_index_or, IsSomeAnd, nat_eq
 use Rattle.std.specs.Str.{bytes_eq}
 use Rattle.std.proofs.lemmas.Bool.{or_cases, or_left, or_right, eq-eqb}
 use Rattle.std.proofs.lemmas.Option.{slice_get_within}
+use Rattle.std.proofs.lemmas.Slice.Eq.{bytes_eq-Decides}
+use Rattle.std.proofs.Math.Bool.{or-false}
 use Rattle.lx_tables.specs.declared.operators.Op.TheVariants as op
 use Rattle.lx_tables.specs.declared.operators.OpRow.{OpRow}
 use Rattle.lx_tables.specs.Operators.{row_of, mix_of}
@@ -13,7 +15,6 @@ use Rattle.lx_circuit.specs.Shapes.{shape_of}
 use Rattle.lx_circuit.specs.Reads as circuit
 use Rattle.lx_vtext.specs.Tree as tree
 use Rattle.lx_vtext.specs.Tree.{Name, VExpr, VExprs, NoMore, More}
-use Rattle.lx_vtext.proofs.Pieces.{bytes_eq_is}
 use Rattle.lx_vmeaning.specs.Loops.{reads, some_reads}
 use Rattle.lx_fhdl.specs.Below.{ExprId, expr_below}
 use Rattle.lx_fhdl.specs.Nodes.{EachPlace, EachChild}
@@ -70,11 +71,11 @@ fetch_at d keeps k memory width at e = let found = listed_width d.memories memor
 -- ---- operands
 
 signal_reads : (d : Design) (names : List Name) (x bound : ℕ) (t : Term) (n : Name) → x < length d.signals → circuit.names (At x) t ≡ true → bytes_eq (net names x) n ≡ true → MayRead d names bound t n
-signal_reads d names x bound t n within named h = inl (record { signal = x; within = within; same = sym (bytes_eq_is (net names x) n h); named = named })
+signal_reads d names x bound t n within named h = inl (record { signal = x; within = within; same = sym ((bytes_eq-Decides (net names x) n).0 h); named = named })
 
 net_reads : (d : Design) (names : List Name) (k : ℕ) (n : Name) → k < length d.exprs → IsNetNode d k → bytes_eq (node_net d.exprs k) n ≡ true → MayRead d names (suc k) (term d k) n
 net_reads d names k n within is_node h =
-    inr (record { place = k; within = within; below = omega arith; is_node = is_node; same = sym (bytes_eq_is (node_net d.exprs k) n h); signals = λ y e. e })
+    inr (record { place = k; within = within; below = omega arith; is_node = is_node; same = sym ((bytes_eq-Decides (node_net d.exprs k) n).0 h); signals = λ y e. e })
 
 operand_of_reads : (d : Design) (names : List Name) → Keeps d → (k : ℕ) (x : Expr) → k < length d.exprs → slice_get d.exprs k ≡ Some x → (n : Name) → reads n (operand_of names (node_net d.exprs k) (Some x)) ≡ true → MayRead d names (suc k) (term d k) n
 operand_of_reads d names keeps k (Const value bits signed) within e n h = absurd cc
@@ -107,11 +108,7 @@ part_reads d names keeps bound within n i below u f h =
 
 wide_if_reads : (n : Name) (wide : Bool) (e : VExpr) → reads n (wide_if wide e) ≡ true → reads n e ≡ true
 wide_if_reads n false e h = h
-wide_if_reads n true e h = drop_false (reads n e) h
-  where
-    drop_false : (b : Bool) → (b || false) ≡ true → b ≡ true
-    drop_false true p = refl
-    drop_false false p = p
+wide_if_reads n true e h = sym (or-false (reads n e)) ∙ h
 
 binary_text_reads : (n : Name) (r : OpRow) (a b : VExpr) → reads n (binary_text r a b) ≡ true → (reads n a ≡ true) ⊎ (reads n b ≡ true)
 binary_text_reads n r a b h = elim (or_cases (reads n (wide_if r.widen_left a)) (reads n (wide_if r.widen_right b)) h) [

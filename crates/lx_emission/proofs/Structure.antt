@@ -3,9 +3,10 @@ use Rattle.std.proofs.Common.{◌≡◌, ℕ, ◌<◌, ◌≤◌, ◌+◌, Bool,
 use Rattle.std.specs.Prelude.{is_some, Option, Some, None, option_map, slice_get, IfSome, nat_eq, codes}
 use Rattle.std.specs.List.{list_any}
 use Rattle.std.specs.Str.{bytes_eq}
-use Rattle.std.proofs.lemmas.Bool.{and_parts, cases_eq, not-true}
+use Rattle.std.proofs.lemmas.Bool.{and_parts, cases_eq, not-true, false_from_ne_true, or_parts}
 use Rattle.std.proofs.lemmas.List.{append_cancel_right}
 use Rattle.std.proofs.lemmas.Option.{slice_get_within}
+use Rattle.std.proofs.lemmas.Slice.Eq.{bytes_eq-Decides}
 use Rattle.lx_circuit.specs.Circuit as circuit
 use Rattle.lx_vtext.specs.Tree.{Name, VNet, VPort, VDecl, NetDecl, MemoryDecl, VMemory}
 use Rattle.lx_vmeaning.specs.Runs.{decl_nets, all_nets, net_named, outside_drivers, Outside}
@@ -23,7 +24,7 @@ use Rattle.lx_emission.specs.Signals.{own, drive, init_of, shape_of_signal, rese
 use Rattle.lx_emission.specs.Emission.{wire, signal_port, reset_port, domain_port, domain_ports, ports_of, is_port, is_input_drive, is_net_node, inner_decl, memory_decls, node_decl, decls_of, places_from, emitted}
 use Rattle.lx_emission.specs.Memories.{memory_decl}
 use Rattle.lx_emission.specs.Emits.{PortsFit, are_once, none_is_reset}
-use Rattle.lx_emission.proofs.Lists.{is_false, name_same, name_other, Collects, collects_next, collects_after, collects_map, none_of_two, first_of_two, second_of_two, none_at_places, one_at_places, called, first_net, net_named_is, input_is, collects_outside, collects_called, collects_decls}
+use Rattle.lx_emission.proofs.Lists.{name_other, Collects, collects_next, collects_after, collects_map, none_of_two, first_of_two, second_of_two, none_at_places, one_at_places, called, first_net, net_named_is, input_is, collects_outside, collects_called, collects_decls}
 use Rattle.lx_emission.proofs.Names.{node_net_once, clock_once, clock_not_node, net_once, net_not_clock, net_not_node, net_not_memory, memory_not_clock, memory_not_node}
 use Rattle.lx_emission.proofs.Setting.{IsNetNode}
 
@@ -63,21 +64,17 @@ other_reset d name r y p h ne = by y.reset refl
     by : (o : Option SigId) → y.reset ≡ o → circuit.is_named r (option_map signal_number o) ≡ false
     by None e = refl
     by (Some q) e =
-        is_false (nat_eq q.0 r) (λ t.
+        false_from_ne_true (nat_eq q.0 r) (λ t.
         let same = eqb-true q.0 r t in
         let own : IsResetOf d y.name r = subst (λ i. IsResetOf d y.name i) same (reset_of d y q h e) in
-        let found = name_same name y.name (reset_once d name y.name r p own) in
+        let found = (bytes_eq-Decides name y.name).1 (reset_once d name y.name r p own) in
         cc)
 
 no_reset : (d : Design) (name : List ℕ) (r k : ℕ) (ys : List Domain) → IsResetOf d name r → EachOf (IsDomain d) ys → list_any (bytes_eq name) (map (λ (x : Domain). x.name) ys) ≡ false → circuit.is_some_reset r (domains_from d k ys) ≡ false
 no_reset d name r k [] p h ne = refl
 no_reset d name r k (y ∷ ys) p h ne =
-    let parts = or_false (bytes_eq name y.name) (list_any (bytes_eq name) (map (λ (x : Domain). x.name) ys)) ne in
+    let parts = or_parts (bytes_eq name y.name) (list_any (bytes_eq name) (map (λ (x : Domain). x.name) ys)) ne in
     rw (other_reset d name r y p h.0 parts.0) (no_reset d name r (k + 1) ys p h.1 parts.1)
-  where
-    or_false : (a b : Bool) → (a || b) ≡ false → (a ≡ false) × (b ≡ false)
-    or_false true b e = absurd cc
-    or_false false b e = (refl, e)
 
 -- ---- what is collected from the ports
 
@@ -254,7 +251,7 @@ abbrev pub clock_wire : Design → ℕ → VNet
 clock_wire d k = wire false 1 (clock d k)
 
 pub called_own : (n : Name) (x : VNet) → x.name ≡ n → called n (x ∷ []) ≡ x ∷ []
-called_own n x e = rw (name_same x.name n e) refl
+called_own n x e = rw ((bytes_eq-Decides x.name n).1 e) refl
 
 pub called_other : (n : Name) (x : VNet) → (x.name ≡ n → ⊥) → called n (x ∷ []) ≡ []
 called_other n x ne = rw (name_other x.name n ne) refl
@@ -488,7 +485,7 @@ outside_clock d names keeps fit k lt =
     ports_clock (outside_drivers n) (collects_outside n) d names keeps k lt
     (λ x p u. outside_at_signal d names n x (λ e. net_not_clock d names fit x k p lt e))
     (λ j p other. outside_at_clock d n j (λ e. other (clock_once d keeps j k p lt e)))
-    ∙ rw (name_same n n refl) refl
+    ∙ rw ((bytes_eq-Decides n n).1 refl) refl
 
 pub clock_is_input : (d : Design) (names : List Name) → Keeps d → NamesFit d names → (k : ℕ) → k < length d.domains
     → (is_net (emitted d names) (clock d k) ≡ true) × (is_input (clock d k) (emitted d names).ports ≡ true)

@@ -4,6 +4,8 @@ use Rattle.std.specs.Prelude.{Option, Some, None, IsTrue}
 use Rattle.std.specs.List.{AllByRecursion}
 use Rattle.std.specs.Str.{bytes_eq}
 use Rattle.std.proofs.lemmas.Bool.{and_from, le-leb, lt-ltb}
+use Rattle.std.proofs.lemmas.Slice.Eq.{bytes_eq-Decides}
+use Rattle.std.proofs.Math.Bool.{or-false}
 use Rattle.lx_num.specs.declared.Shape.{Shape}
 use Rattle.lx_circuit.specs.Memories.{Writer, Port}
 use Rattle.lx_vtext.specs.declared.operators.BinOp.TheVariants as op
@@ -27,8 +29,7 @@ use Rattle.lx_emission.proofs.Tests.{IsTest, names_test, widths_test, fits_test,
 use Rattle.lx_emission.proofs.Blocks.{AlwaysFits}
 use Rattle.lx_emission.proofs.Lawful.{net_lawful, memory_lawful}
 use Rattle.lx_emission.proofs.Writes.{part_inside}
-use Rattle.lx_emission.proofs.Writers.{sized, IsWriter, HoldsOfWrites, writes_hold, writes_some}
-use Rattle.lx_emission.proofs.Lists.{name_same}
+use Rattle.lx_emission.proofs.Writers.{sized, IsWriter, HoldsOfWrites, writes_hold, writes_some, all_bare}
 
 -- ---- what it writes
 
@@ -39,14 +40,6 @@ target_is n index bits low len = by (covers bits low len)
     by true = refl
     by false = refl
 
-drop_false : (b : Bool) → ((b || false) || false) ≡ b
-drop_false true = refl
-drop_false false = refl
-
-or_false : (b : Bool) → (b || false) ≡ b
-or_false true = refl
-or_false false = refl
-
 or_self : (a b c : Bool) → a ≡ c → b ≡ c → (a || b) ≡ c
 or_self true b c p q = p
 or_self false b c p q = q
@@ -54,7 +47,7 @@ or_self false b c p q = q
 -- a block whose statements all assign a name or not does so too
 block_sets : (n : Name) (b : Bool) (ss : List VStmt) → 0 < length ss → AllByRecursion (λ s. sets_stmt n s ≡ b) ss → sets_block n (block_of ss) ≡ b
 block_sets n b [] some h = absurd (omega arith)
-block_sets n b (s ∷ []) some h = or_false (sets_stmt n s) ∙ h.0
+block_sets n b (s ∷ []) some h = or-false (sets_stmt n s) ∙ h.0
 block_sets n b (s ∷ (t ∷ ts)) some h = or_self (sets_stmt n s) (sets_block n (block_of (t ∷ ts))) b h.0 (block_sets n b (t ∷ ts) (omega arith) h.1)
 
 sets_hold : (d : Design) (names : List Name) (k : ℕ) (n : Name) → HoldsOfWrites d names k (λ s. sets_stmt n s ≡ bytes_eq (memory_name d names k) n) (λ s. sets_stmt n s ≡ bytes_eq (memory_name d names k) n)
@@ -63,10 +56,10 @@ sets_hold d names k n = record {
       let low = w.part * i in
       let bits = (memory_at d k).width in
       let m = memory_name d names q.memory in
-      drop_false (bytes_eq (target_name (word_target m (Net (net names q.adr)) bits low w.part)) n)
+      or-false (bytes_eq (target_name (word_target m (Net (net names q.adr)) bits low w.part)) n || false) ∙ or-false (bytes_eq (target_name (word_target m (Net (net names q.adr)) bits low w.part)) n)
       ∙ (ap (λ (t : Name). bytes_eq t n) (target_is m (Net (net names q.adr)) bits low w.part) ∙ ap (λ (j : ℕ). bytes_eq (memory_name d names j) n) same);
   bare = λ s h. h;
-  guard = λ q w same is few ss some h. or_false (sets_block n (block_of ss)) ∙ block_sets n (bytes_eq (memory_name d names k) n) ss some h;
+  guard = λ q w same is few ss some h. or-false (sets_block n (block_of ss)) ∙ block_sets n (bytes_eq (memory_name d names k) n) ss some h;
 }
 
 -- the block of a memory's writers writes this memory alone
@@ -243,7 +236,7 @@ memory_fits d names m keeps lets k x e input =
     let one = block_passes (fits_test n false) ss (writes_hold d names k (λ s. stmt_fits n false s ≡ true) (λ s. stmt_fits n false s ≡ true) keeps (tests_hold (fits_test n false) d names k
     (λ q w same is i lt. refl)
     (λ q w same is i lt. and_from (bytes_eq (target_name (word_target n (Net (net names q.adr)) (memory_at d k).width (w.part * i) w.part)) n) true
-    (ap (λ (t : Name). bytes_eq t n) (target_is n (Net (net names q.adr)) (memory_at d k).width (w.part * i) w.part) ∙ name_same n n refl) refl)
+    (ap (λ (t : Name). bytes_eq t n) (target_is n (Net (net names q.adr)) (memory_at d k).width (w.part * i) w.part) ∙ (bytes_eq-Decides n n).1 refl) refl)
     (λ q w same is. refl))) in
     let target = first_target n ss (writes_some d names k x keeps e) (writes_hold d names k (λ s. stmt_target s ≡ Some n) (λ s. stmt_target s ≡ Some n) keeps (targets_hold d names k)) in
     record {
@@ -272,10 +265,6 @@ block_lawful : (n : ℕ) (ss : List VStmt) → AllByRecursion (λ s. IsStmt n s)
 block_lawful n [] h = tt
 block_lawful n (s ∷ ss) h = (h.0, block_lawful n ss h.1)
 
-all_at_depth : (P : VStmt → Type 0) (Q : VStmt → Type 0) (ss : List VStmt) → ((s : VStmt) → P s → Q s) → AllByRecursion P ss → AllByRecursion Q ss
-all_at_depth P Q [] f h = tt
-all_at_depth P Q (s ∷ ss) f h = (f s h.0, all_at_depth P Q ss f h.1)
-
 lawful_hold : (d : Design) (names : List Name) (k : ℕ) → Keeps d → NamesFit d names → HoldsOfWrites d names k (λ s. (b : ℕ) → IsStmt (suc b) s) (λ s. (b : ℕ) → IsStmt (suc (suc b)) s)
 lawful_hold d names k keeps fit = record {
   part = λ q w same is i lt b. (
@@ -297,7 +286,7 @@ lawful_hold d names k keeps fit = record {
           and_from (nat_le 1 bits && nat_le bits 128) (nat_lt (memory_at d k).depth (2 ^ bits))
               (and_from (nat_le 1 bits) (nat_le bits 128) (le-leb 1 bits (fhdl.signal_some d keeps q.adr)) (le-leb bits 128 (omega (arith, fhdl.signal_most d keeps q.adr)))) (lt-ltb (memory_at d k).depth (2 ^ bits) few),
         ),
-        block_lawful (suc b) ss (all_at_depth (λ s. (c : ℕ) → IsStmt (suc c) s) (λ s. IsStmt (suc b) s) ss (λ s l. l b) h),
+        block_lawful (suc b) ss (all_bare (λ s. (c : ℕ) → IsStmt (suc c) s) (λ s. IsStmt (suc b) s) ss (λ s l. l b) h),
         tt,
       );
 }
@@ -307,5 +296,5 @@ pub memory_body_lawful : (d : Design) (names : List Name) → Keeps d → NamesF
 unfolding memory_body
 memory_body_lawful d names keeps fit k =
     let ss = flat_map (port_text d names k) (circuit_of d).ports in
-    block_lawful 127 ss (all_at_depth (λ s. (b : ℕ) → IsStmt (suc (suc b)) s) (λ s. IsStmt 127 s) ss (λ s l. l 125)
+    block_lawful 127 ss (all_bare (λ s. (b : ℕ) → IsStmt (suc (suc b)) s) (λ s. IsStmt 127 s) ss (λ s l. l 125)
     (writes_hold d names k (λ s. (b : ℕ) → IsStmt (suc b) s) (λ s. (b : ℕ) → IsStmt (suc (suc b)) s) keeps (lawful_hold d names k keeps fit)))

@@ -109,7 +109,7 @@ pub record HoldsOfWrites (d : Design) (names : List Name) (k : ℕ) (I P : VStmt
   pub guard : (q : Port) (w : Writer) → q.memory ≡ k → IsWriter d q w → (memory_at d k).depth < 2 ^ (shapes d q.adr).bits → (ss : List VStmt) → 0 < length ss → AllByRecursion I ss
       → P (When (Binary (Net (net names q.adr)) op.Less (Literal (shapes d q.adr).bits false (memory_at d k).depth)) (block_of ss) NoElse)
 
-all_bare : (I P : VStmt → Type 0) (ss : List VStmt) → ((s : VStmt) → I s → P s) → AllByRecursion I ss → AllByRecursion P ss
+pub all_bare : (I P : VStmt → Type 0) (ss : List VStmt) → ((s : VStmt) → I s → P s) → AllByRecursion I ss → AllByRecursion P ss
 all_bare I P [] f h = tt
 all_bare I P (s ∷ ss) f h = (f s h.0, all_bare I P ss f h.1)
 

@@ -8,16 +8,18 @@ use Rattle.std.proofs.lemmas.Nat.{pow_pos}
 use Rattle.lx_num.specs.Ints.{modulo, floor_div, field_of, FitsBits}
 use Rattle.lx_num.proofs.Ints.{modulo-small, modulo-below}
 use Rattle.lx_num.proofs.Ranges.{fits_pos, unsigned_fits}
-use Rattle.lx_circuit.specs.Values.{count_of, is_zero, flag}
+use Rattle.lx_circuit.specs.Values.{count_of, flag}
 use Rattle.lx_circuit.specs.Statements.{laid_over}
 use Rattle.lx_circuit.specs.Memories.{laid_parts}
 use Rattle.lx_circuit.proofs.Cases.{by_test}
 use Rattle.lx_circuit.proofs.Fitting.{laid_over_below}
+use Rattle.lx_circuit.proofs.Values.{flag_on}
 use Rattle.lx_vtext.specs.declared.operators.BinOp.TheVariants as op
 use Rattle.lx_vtext.specs.Tree.{Name, VExpr, Literal, Net, Binary, WholeWord, PartWord, VStmt, When, NoElse}
 use Rattle.lx_vmeaning.specs.Meaning as verilog
 use Rattle.lx_vmeaning.specs.Meaning.{Declared, Sizes, Valuation, Meaning, meaning, own, assigned, holds, less}
 use Rattle.lx_vmeaning.specs.Runs.{set_bits, set_word, write_word, new_words, run_stmt_words, run_block_words}
+use Rattle.lx_vmeaning.proofs.Bits.{by_cond}
 use Rattle.lx_tie.specs.Stands.{Exact}
 use Rattle.lx_tie.specs.Words.{memory}
 use Rattle.lx_tie.proofs.Leaves.{exact_leaf, own_exact}
@@ -154,16 +156,9 @@ range_more i (suc n) =
 range_last : (c : ℕ) → range_with_len 0 (suc c) ≡ range_with_len 0 c ++ c ∷ []
 range_last c = let e : 0 + c ≡ c = omega arith in range_more 0 c ∙ ap (λ (k : ℕ). range_with_len 0 c ++ k ∷ []) e
 
-same_either : (b : Bool) (x : ℕ) → cond b x x ≡ x
+pub same_either : (b : Bool) (x : ℕ) → cond b x x ≡ x
 same_either true x = refl
 same_either false x = refl
-
-less_product : (c n p : ℕ) → c ≤ n → c * p ≤ n * p
-less_product c n p le = mul-le-mul_right p le
-
-flag_holds : (b : Bool) → not (is_zero (flag b)) ≡ b
-flag_holds true = refl
-flag_holds false = refl
 
 less_is : (bits : ℕ) (z : ℤ) (n : ℕ) → FitsBits bits false z → less z (pos n) ≡ nat_lt (count_of z) n
 less_is bits (pos x) n f = refl
@@ -227,12 +222,7 @@ module _ (s : Sizes) (w : Valuation) (n : WriteNames) (width depth part bits : �
   laid_below p zero le below = below
   laid_below p (suc i) le below =
       let rest = laid_below p i (omega arith) below in
-      either_below (nat_eq (field_of we i 1) 1) (laid_over (laid_parts part we from p i) (part * i) part (floor_div from (2 ^ (part * i)))) (laid_parts part we from p i)
-      (laid_over_below width (laid_parts part we from p i) (part * i) part (floor_div from (2 ^ (part * i))) (omega arith) rest) rest
-    where
-      either_below : (b : Bool) (x y : ℕ) → x < 2 ^ width → y < 2 ^ width → cond b x y < 2 ^ width
-      either_below true x y p q = p
-      either_below false x y p q = q
+      by_cond (nat_eq (field_of we i 1) 1) (laid_over (laid_parts part we from p i) (part * i) part (floor_div from (2 ^ (part * i)))) (laid_parts part we from p i) (2 ^ width) (laid_over_below width (laid_parts part we from p i) (part * i) part (floor_div from (2 ^ (part * i))) (omega arith) rest) rest
 
   parts_run : (count : ℕ) → count ≤ width / part → (words : ℕ → ℕ) (k : ℕ) → k < depth → words k < 2 ^ width
       → run_block_words s w (block_of (map (part_text n width part) (range_with_len 0 count))) words k ≡ cond (nat_eq (count_of adr) k) (laid_parts part we from (words k) count) (words k)
@@ -243,8 +233,8 @@ module _ (s : Sizes) (w : Valuation) (n : WriteNames) (width depth part bits : �
       let so_far = run_block_words s w (block_of first) words in
       let x = laid_parts part we from (words k) c in
       let here = parts_run c (omega arith) words k lt below in
-      let inside : c * part ≤ width = omega (arith, h.parts, le, less_product c (width / part) part (omega arith)) in
-      let small : so_far k < 2 ^ width = subst (λ (p : ℕ). p < 2 ^ width) (sym here) (either_below (nat_eq (count_of adr) k) x (words k) (laid_below (words k) c inside below) below) in
+      let inside : c * part ≤ width = omega (arith, h.parts, le, mul-le-mul_right {m = c} {n = width / part} part (omega arith)) in
+      let small : so_far k < 2 ^ width = subst (λ (p : ℕ). p < 2 ^ width) (sym here) (by_cond (nat_eq (count_of adr) k) x (words k) (2 ^ width) (laid_below (words k) c inside below) below) in
       ap (λ (ks : List ℕ). run_block_words s w (block_of (map g ks)) words k) (range_last c)
       ∙ (ap (λ (xs : List VStmt). run_block_words s w (block_of xs) words k) (map-append g (range_with_len 0 c) (c ∷ []))
       ∙ (ap (λ (f : ℕ → ℕ). f k) (runs_joined s w first (g c ∷ []) words)
@@ -252,10 +242,6 @@ module _ (s : Sizes) (w : Valuation) (n : WriteNames) (width depth part bits : �
       ∙ (ap (λ (p : ℕ). cond (nat_eq (count_of adr) k) (cond (nat_eq (field_of we c 1) 1) (laid_over p (part * c) part (floor_div from (2 ^ (part * c)))) p) p) here
       ∙ taken (nat_eq (count_of adr) k) x (words k) (λ p. cond (nat_eq (field_of we c 1) 1) (laid_over p (part * c) part (floor_div from (2 ^ (part * c)))) p)))))
     where
-      either_below : (b : Bool) (x y : ℕ) → x < 2 ^ width → y < 2 ^ width → cond b x y < 2 ^ width
-      either_below true x y p q = p
-      either_below false x y p q = q
-
       taken : (b : Bool) (x y : ℕ) (f : ℕ → ℕ) → cond b (f (cond b x y)) (cond b x y) ≡ cond b (f x) y
       taken true x y f = refl
       taken false x y f = refl
@@ -269,7 +255,7 @@ module _ (s : Sizes) (w : Valuation) (n : WriteNames) (width depth part bits : �
       exact_leaf w bits bits false (pos depth) (λ u. depth) refl h.address_some (fits_pos bits depth lt) (sym (modulo-small depth (2 ^ bits) lt)) in
       let both = exact_compare w less bits bits false adr (pos depth) (meaning s (Net n.adr)) (meaning s (Literal bits false depth)) left right in
       holds_exact w 1 false (flag (less adr (pos depth))) (meaning s (Binary (Net n.adr) op.Less (Literal bits false depth))) both
-      ∙ (flag_holds (less adr (pos depth)) ∙ less_is bits adr depth h.address_fits)
+      ∙ (flag_on (less adr (pos depth)) ∙ less_is bits adr depth h.address_fits)
 
   guarded_runs : (ss : List VStmt) (words : ℕ → ℕ) (k x : ℕ) → k < depth → run_block_words s w (block_of ss) words k ≡ cond (nat_eq (count_of adr) k) x (words k)
       → (b : Bool) → nat_le (2 ^ bits) depth ≡ b

@@ -1,5 +1,6 @@
 -- Each node whose parts go its rule's way says what has a form.
-use Rattle.std.proofs.Common.{true, false, ◌≡◌, List, ℕ, Some, subst}
+use Rattle.std.proofs.Common.{◌≡◌, List, ℕ, Some, subst}
+use Rattle.std.proofs.lemmas.Bool.{false≢true as no}
 use Rattle.lx_grammar.specs.declared.grammar.Spot.{Spot}
 use Rattle.lx_grammar.specs.declared.grammar.Spot.TheVariants as spot
 use Rattle.lx_grammar.specs.Derives.{Parts, label, wrap}
@@ -8,9 +9,6 @@ use Rattle.lx_formed.proofs.Values.{and_good, arg_good, band_good, bor_good, bxo
 use Rattle.lx_formed.proofs.Pairs.{args_good, comp_good, power_good, sub_good}
 use Rattle.lx_formed.proofs.Atoms.{atom_good, post_good}
 use Rattle.lx_formed.proofs.Orders.{class_good, dotted_good, file_good, for_good, if_good, import_good, init_good, names_good, place_good, simple_good, stmt_good, suite_good}
-
-no : false ≡ true → ⊥
-no e = cc
 
 kind_same : (i j : Kind) → Some i ≡ Some j → i ≡ j
 kind_same i j e = cc

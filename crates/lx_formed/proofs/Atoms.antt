@@ -1,5 +1,6 @@
 -- Attributes, calls, subscripts and what stands between brackets, whose parts go their rule's way, have a form.
-use Rattle.std.proofs.Common.{true, false, ◌≡◌, List, ℕ, refl, subst, map}
+use Rattle.std.proofs.Common.{◌≡◌, List, ℕ, refl, subst, map}
+use Rattle.std.proofs.lemmas.Bool.{false≢true as no}
 use Rattle.lx_token.specs.declared.tokens.Token.{Token}
 use Rattle.lx_grammar.specs.declared.grammar.Rule.TheVariants as rule
 use Rattle.lx_grammar.specs.declared.sign.Sign.{Sign}
@@ -11,9 +12,6 @@ use Rattle.lx_syntax.specs.Convert.{arguments, atom, bounds, called_or_indexed, 
 use Rattle.lx_formed.specs.Formed.{AreArguments, AreFormed, ArePairs, AreTrailers, IsFormed}
 use Rattle.lx_formed.proofs.Steps.{After, Ended, Leads, State, atom_on, bracketed, close_on, ends, given, heading, index, plain, posted, q0, q1, q2, q3, q4, q5, q6, q7, q9, q10, q11, q12, q13, q14, q15, value, word}
 use Rattle.lx_formed.proofs.Inverting.{kid, over, sole, wrapped}
-
-no : false ≡ true → ⊥
-no e = cc
 
 -- ---- trailers
 

@@ -1,6 +1,7 @@
 -- What the grammar derives goes its rule's way.
-use Rattle.std.proofs.Common.{ℕ, zero, suc, Bool, true, false, ◌≡◌, ◌<◌, ◌&&◌, ◌||◌, nat_eq, nat_lt, List, [], ◌∷◌, Option, Some, None, refl, sym, ap, subst, ◌∙◌, arith, map, slice_get}
-use Rattle.std.proofs.lemmas.Bool.{and_parts, eqb-true, ltb-true}
+use Rattle.std.proofs.Common.{ℕ, zero, suc, Bool, true, ◌≡◌, ◌<◌, ◌&&◌, nat_eq, nat_lt, List, [], ◌∷◌, Option, Some, None, refl, sym, ap, subst, ◌∙◌, arith, map, slice_get, inl, inr}
+use Rattle.std.proofs.lemmas.Bool.{and_parts, eqb-true, ltb-true, or_cases}
+use Rattle.std.proofs.lemmas.Option.{same_Some}
 use Rattle.lx_token.specs.declared.tokens.Token.{Token}
 use Rattle.lx_grammar.specs.declared.grammar.Spot.{Spot}
 use Rattle.lx_grammar.specs.declared.grammar.Spot.TheVariants as spot
@@ -45,15 +46,8 @@ unfolding number all_signs
 sign_there sign.Name = refl
 sign_there _ = refl
 
-some_same : {A : Type 0} (x y : A) → Some x ≡ Some y → x ≡ y
-some_same x y e = cc
-
 number_same : (s g : Sign) → number s ≡ number g → s ≡ g
-number_same s g e = some_same s g (sym (sign_there s) ∙ ap (slice_get all_signs) e ∙ sign_there g)
-
-or_cases : (a b : Bool) (P : Type 0) → (a ≡ true → P) → (b ≡ true → P) → (a || b) ≡ true → P
-or_cases true b P f g h = f refl
-or_cases false b P f g h = g h
+number_same s g e = same_Some s g (sym (sign_there s) ∙ ap (slice_get all_signs) e ∙ sign_there g)
 
 below_three : (n : ℕ) → nat_lt n 3 ≡ true → told n ≡ 0
 below_three zero h = refl
@@ -63,20 +57,21 @@ below_three (suc (suc (suc n))) h = let l : suc (suc (suc n)) < 3 = ltb-true _ _
 
 pub plain_same : (s g : Sign) → takes (number s) (number g) ≡ true → plain s ≡ plain g
 unfolding takes
-plain_same s g h = or_cases (nat_eq (number s) (number g)) (nat_eq (number s) 0 && nat_lt (number g) 3) (plain s ≡ plain g)
-    (λ e. ap plain (number_same s g (eqb-true (number s) (number g) e)))
-    (λ e.
-    let both = and_parts (nat_eq (number s) 0) (nat_lt (number g) 3) e in
-    let z : number s ≡ 0 = eqb-true (number s) 0 both.0 in
-    number_same (plain s) (plain g) (number_plain s ∙ ap told z ∙ sym (below_three (number g) both.1) ∙ sym (number_plain g)))
-    h
+plain_same s g h =
+    elim (or_cases (nat_eq (number s) (number g)) (nat_eq (number s) 0 && nat_lt (number g) 3) h) [
+      | inl e ↦ ap plain (number_same s g (eqb-true (number s) (number g) e))
+      | inr e ↦
+          let both = and_parts (nat_eq (number s) 0) (nat_lt (number g) 3) e in
+          let z : number s ≡ 0 = eqb-true (number s) 0 both.0 in
+          number_same (plain s) (plain g) (number_plain s ∙ ap told z ∙ sym (below_three (number g) both.1) ∙ sym (number_plain g))
+    ]
 
 -- ---- rows
 
 all_at : {A : Type 0} (test : A → Bool) (xs : List A) (i : ℕ) (x : A) → all_of test xs ≡ true → slice_get xs i ≡ Some x → test x ≡ true
 unfolding all_of
 all_at test [] i x h e = absurd (cc)
-all_at test (y ∷ xs) zero x h e = ap test (sym (some_same y x e)) ∙ (and_parts (test y) (all_of test xs) h).0
+all_at test (y ∷ xs) zero x h e = ap test (sym (same_Some y x e)) ∙ (and_parts (test y) (all_of test xs) h).0
 all_at test (y ∷ xs) (suc i) x h e = all_at test xs i x (and_parts (test y) (all_of test xs) h).1 e
 
 same_is : (p q : State) → same p q ≡ true → p ≡ q

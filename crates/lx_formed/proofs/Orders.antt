@@ -1,5 +1,6 @@
 -- Statements and classes whose parts go their rule's way have a form.
 use Rattle.std.proofs.Common.{Bool, true, false, ◌≡◌, ◌++◌, List, [], ◌∷◌, ℕ, Option, Some, None, refl, sym, ap, subst, ◌∙◌, if◌then◌else◌}
+use Rattle.std.proofs.lemmas.Bool.{false≢true as no}
 use Rattle.lx_token.specs.declared.tokens.Token.{Token}
 use Rattle.lx_grammar.specs.declared.grammar.Rule.TheVariants as rule
 use Rattle.lx_grammar.specs.declared.sign.Sign.{Sign}
@@ -12,9 +13,6 @@ use Rattle.lx_syntax.specs.Convert.{bound, branches, expr, is_name, line_of, loo
 use Rattle.lx_formed.specs.Formed.{AreBranches, AreClasses, AreFormed, AreParams, AreStated, IsFormed, IsPlaced, IsStated}
 use Rattle.lx_formed.proofs.Steps.{After, Ended, Good, IsSpot, Kind, Leads, State, alone, block, bound_on, class_step, conditional, default_on, else_on, end_on, ends, file_step, heading, init_step, looped, loose, making, order, placed, plain, q0, q1, q2, q3, q4, q5, q6, q7, simple_at, simple_step, spot_, value}
 use Rattle.lx_formed.proofs.Inverting.{Child, NotSole, Word, child_first, kid, over, sole, word_first, wrapped}
-
-no : false ≡ true → ⊥
-no e = cc
 
 -- ---- places
 

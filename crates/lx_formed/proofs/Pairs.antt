@@ -1,5 +1,6 @@
 -- Powers, comparisons, slices and arguments whose parts go their rule's way have a form.
 use Rattle.std.proofs.Common.{Bool, true, false, ◌≡◌, List, ℕ, Option, Some, None, refl, sym, subst, ◌∙◌}
+use Rattle.std.proofs.lemmas.Bool.{false≢true as no}
 use Rattle.lx_token.specs.declared.tokens.Token.{Token}
 use Rattle.lx_grammar.specs.declared.grammar.Rule.TheVariants as rule
 use Rattle.lx_grammar.specs.declared.sign.Sign.{Sign}
@@ -13,9 +14,6 @@ use Rattle.lx_syntax.specs.Convert.{Keyed, Placed, Starred, Way, alone, argument
 use Rattle.lx_formed.specs.Formed.{AreArguments, AreFormed, AreTrailers, IsFormed}
 use Rattle.lx_formed.proofs.Steps.{After, Ended, Good, Leads, State, compared, comparison_on, ends, given, index, loose, negation_on, plain, powered, q0, q1, q2, q3, q4, q5, q6, sliced, value}
 use Rattle.lx_formed.proofs.Inverting.{NotSole, kid, over, sole, wrapped}
-
-no : false ≡ true → ⊥
-no e = cc
 
 -- ---- powers
 

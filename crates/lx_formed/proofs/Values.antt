@@ -1,5 +1,5 @@
 -- Expressions whose parts go their rule's way have a form.
-use Rattle.std.proofs.Common.{true, false, ◌≡◌, List, [], ◌∷◌, ℕ, Option, Some, None, refl, sym, ap, subst, ◌∙◌, map}
+use Rattle.std.proofs.Common.{◌≡◌, List, [], ◌∷◌, ℕ, Option, Some, None, refl, sym, ap, subst, ◌∙◌, map}
 use Rattle.lx_token.specs.declared.tokens.Token.{Token}
 use Rattle.lx_grammar.specs.declared.grammar.Rule.{Rule}
 use Rattle.lx_grammar.specs.declared.grammar.Rule.TheVariants as rule
@@ -14,9 +14,6 @@ use Rattle.lx_syntax.specs.Convert.{alone, chain, choice, choices_of, expr, expr
 use Rattle.lx_formed.specs.Formed.{AreChoices, AreFormed, AreLinks, IsFormed}
 use Rattle.lx_formed.proofs.Steps.{After, Leads, State, chained, led, loose, operator_on, plain, prefix_on, q0, q1, signed_step, single, value}
 use Rattle.lx_formed.proofs.Inverting.{kid, no_exprs, one_expr, over, sole, token_exprs, wrapped}
-
-no : false ≡ true → ⊥
-no e = cc
 
 -- ---- any number of them
 

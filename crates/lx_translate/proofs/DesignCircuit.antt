@@ -1,10 +1,11 @@
 -- The circuit of the design of a description is the description's circuit.
 use Rattle.std.proofs.Common.{◌≡◌, ℕ, ◌+◌, ◌<◌, true, List, [], ◌∷◌, ◌++◌, length, map, Some, refl, sym, ap, ap₂, subst, ◌∙◌, arith, zero, suc, nat_lt}
 use Rattle.std.specs.Prelude.{slice_get}
-use Rattle.std.proofs.lemmas.Bool.{lt-ltb}
+use Rattle.std.proofs.lemmas.Bool.{lt-ltb, and_from}
 use Rattle.std.proofs.lemmas.List.{length-map}
 use Rattle.lx_tables.specs.declared.operators.Op.TheVariants as op
 use Rattle.lx_arena.specs.Lower.{EachLower}
+use Rattle.lx_arena.proofs.Places.{each_lower}
 use Rattle.lx_circuit.specs.Terms as tree
 use Rattle.lx_circuit.specs.Terms.{Term}
 use Rattle.lx_circuit.specs.Statements as statement
@@ -33,10 +34,9 @@ use Rattle.lx_form.specs.Form.{are_signals, are_lines, side_width}
 use Rattle.lx_translate.specs.FormCircuit as form
 use Rattle.lx_translate.specs.FormCircuit.{place_of, op_of, term_of, comb_of, signal_of}
 use Rattle.lx_translate.specs.FormDesign.{signal_node, signal_nodes, operator_node, operator_nodes, side_place, place_after, line_target, line_stmts, design_signal, design_of}
-use Rattle.lx_translate.proofs.Bools.{both}
 use Rattle.lx_translate.proofs.Facts.{line_fits, both_made}
 use Rattle.lx_translate.proofs.Order.{placed}
-use Rattle.lx_translate.proofs.Places.{Tail, tail_all, tail_after, tail_here, tail_next, places_long, each_lower}
+use Rattle.lx_translate.proofs.Places.{Tail, tail_all, tail_after, tail_here, tail_next, places_long}
 use Rattle.lx_translate.proofs.DesignNodes.{place_within, NodeAt, OfSignal, OfNot, OfBoth, node_is, signal_there}
 
 -- ---- nodes stand after their operands
@@ -44,7 +44,7 @@ use Rattle.lx_translate.proofs.DesignNodes.{place_within, NodeAt, OfSignal, OfNo
 node_below : (ss : List Signal) (k : ℕ) (x : Expr) → NodeAt ss k x → expr_below x k ≡ true
 node_below ss k _ (OfSignal lt) = refl
 node_below ss k _ (OfNot i p low) = lt-ltb i k (omega arith)
-node_below ss k _ (OfBoth o i j p q low) = both (nat_lt i k) (nat_lt j k) (lt-ltb i k (omega arith)) (lt-ltb j k (omega arith))
+node_below ss k _ (OfBoth o i j p q low) = and_from (nat_lt i k) (nat_lt j k) (lt-ltb i k (omega arith)) (lt-ltb j k (omega arith))
 
 pub exprs_lower : (f : File) → are_lines f.signals f.lines ≡ true → EachLower expr_below (design_of f).exprs
 exprs_lower f h = each_lower expr_below (design_of f).exprs (λ k x e. node_below f.signals k x (node_is f h k x e))

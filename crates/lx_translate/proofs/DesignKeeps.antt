@@ -1,5 +1,5 @@
 -- The design of a description keeps what designs keep, and is lowered.
-use Rattle.std.proofs.Common.{◌≡◌, ℕ, pos, false, zero, suc, ◌+◌, ◌<◌, ◌≤◌, true, List, [], ◌∷◌, ◌++◌, length, map, Some, None, refl, sym, ap, subst, ◌∙◌, arith, le-leb, lt-ltb, eq-eqb, nat_lt}
+use Rattle.std.proofs.Common.{◌≡◌, ℕ, pos, false, zero, suc, ◌+◌, ◌<◌, ◌≤◌, true, List, [], ◌∷◌, ◌++◌, length, map, Some, None, refl, sym, ap, subst, ◌∙◌, arith, lt-ltb, eq-eqb, nat_lt}
 use Rattle.std.specs.Prelude.{slice_get, slice_index_or}
 use Rattle.std.proofs.lemmas.Bool.{and_from}
 use Rattle.std.proofs.lemmas.List.{length-map, length-append}
@@ -31,6 +31,7 @@ use Rattle.lx_fhdl.specs.declared.design.Design.{Design}
 use Rattle.lx_arena.proofs.Places.{node_there}
 use Rattle.lx_fhdl.proofs.Trees.{term_at-is}
 use Rattle.lx_fhdl.proofs.StmtTrees.{target_at-is}
+use Rattle.lx_fhdl.proofs.Operators.{narrow as fits_width}
 use Rattle.lx_emission.specs.Emission.{places_from}
 use Rattle.lx_form.specs.declared.file.Operator.{Operator}
 use Rattle.lx_form.specs.declared.file.Operator.TheVariants as operator
@@ -82,9 +83,6 @@ signals_keep (s ∷ ss) h =
     )
 
 -- ---- expressions
-
-fits_width : (n : ℕ) → n ≤ 127 → too_wide n ≡ None
-fits_width n most = rw (le-leb n 127 most) refl
 
 joined_fits : (a b r : Shape) → (joined a b).bits ≤ 127 → r.bits ≤ 127 → joined_fault a b r ≡ None
 joined_fits a b r p q = rw (fits_width (joined a b).bits p, fits_width r.bits q) refl

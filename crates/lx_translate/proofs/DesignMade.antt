@@ -2,6 +2,7 @@
 use Rattle.std.proofs.Common.{◌≡◌, ℕ, ◌+◌, ◌<◌, ◌≤◌, true, ◌&&◌, nat_lt, List, [], ◌∷◌, ◌++◌, length, map, refl, sym, ap, subst, ◌∙◌, arith, lt-ltb, append_assoc}
 use Rattle.std.specs.Prelude.{IsTrue}
 use Rattle.std.proofs.lemmas.List.{append-nil, length-append, length-map, length_push}
+use Rattle.std.proofs.lemmas.Bool.{and_from}
 use Rattle.lx_fhdl.specs.Below.{ExprId, StmtId}
 use Rattle.lx_fhdl.specs.Instance.{the_expr, the_target, the_stmt}
 use Rattle.lx_tables.specs.declared.operators.Op.TheVariants as op
@@ -21,7 +22,6 @@ use Rattle.lx_form.specs.declared.file.File.{File}
 use Rattle.lx_form.specs.Form.{are_lines, is_form, width_of, side_width}
 use Rattle.lx_translate.specs.FormCircuit.{place_of, op_of}
 use Rattle.lx_translate.specs.FormDesign.{signal_node, signal_nodes, operator_node, operator_nodes, side_place, place_after, line_target, line_stmts, design_of, design_without_lines, with_line}
-use Rattle.lx_translate.proofs.Bools.{both}
 use Rattle.lx_translate.proofs.Facts.{line_fits, both_made, form_fits}
 use Rattle.lx_translate.proofs.Places.{places_long}
 use Rattle.lx_translate.proofs.DesignNodes.{place_within}
@@ -41,7 +41,7 @@ pub both_below : (ss : List Signal) (n i j a b : ℕ) (o : Operator) (x : Side) 
     → i ≡ place_of ss a → left ≡ the_expr i → j ≡ place_of ss b → right ≡ the_expr j → (nat_lt left.place n && nat_lt right.place n) ≡ true
 both_below ss n i j a b o x left right e some there p first q second =
     let m = both_made ss a b o (subst (λ (y : Side). 0 < side_width ss y) e some) in
-    both (nat_lt left.place n) (nat_lt right.place n) (id_below ss n i a left m.left there p first) (id_below ss n j b right (omega (arith, m.left, m.same)) there q second)
+    and_from (nat_lt left.place n) (nat_lt right.place n) (id_below ss n i a left m.left there p first) (id_below ss n j b right (omega (arith, m.left, m.same)) there q second)
 
 -- ---- lines
 

@@ -1,8 +1,9 @@
 -- The nodes, targets and statements of the design of a description.
-use Rattle.std.proofs.Common.{◌≡◌, ℕ, ◌+◌, ◌<◌, ◌≤◌, true, List, [], ◌∷◌, ◌++◌, length, map, Some, refl, arith, inl, inr, eq-eqb, ne_eqb}
+use Rattle.std.proofs.Common.{◌≡◌, ℕ, ◌+◌, ◌<◌, ◌≤◌, true, List, [], ◌∷◌, ◌++◌, length, map, Some, refl, arith, inl, inr, eq-eqb, ne_eqb, ◌∙◌}
 use Rattle.std.specs.Prelude.{slice_get}
 use Rattle.std.proofs.lemmas.Bool.{cases_eq}
 use Rattle.std.proofs.lemmas.List.{length-map}
+use Rattle.std.proofs.lemmas.Option.{slice_get_within}
 use Rattle.lx_tables.specs.declared.operators.Op.TheVariants as op
 use Rattle.lx_fhdl.specs.declared.exprs.Expr.{Expr}
 use Rattle.lx_fhdl.specs.declared.exprs.Expr.TheVariants.{Unary, Binary}
@@ -18,7 +19,8 @@ use Rattle.lx_form.specs.Form.{are_lines, width_of, side_width}
 use Rattle.lx_translate.specs.FormCircuit.{place_of, op_of}
 use Rattle.lx_translate.specs.FormDesign.{signal_node, operator_node, signal_nodes, operator_nodes, design_of}
 use Rattle.lx_translate.proofs.Facts.{line_fits, both_made}
-use Rattle.lx_translate.proofs.Places.{EachAt, each_at-append, each_at-get, in_first, places_long, place_there}
+use Rattle.lx_translate.proofs.Places.{EachAt, each_at-append, each_at-get, places_long, place_there}
+use Rattle.lx_arena.proofs.Places.{get_front}
 
 -- the place of a signal that is made is among the signals
 pub place_within : (ss : List Signal) (a : ℕ) → 0 < width_of ss a → place_of ss a < length ss
@@ -69,4 +71,6 @@ node_is f h k x e = each_at-get (NodeAt f.signals) 0 k k (design_of f).exprs x (
 -- the node of a signal
 pub signal_there : (f : File) (x : ℕ) → x < length f.signals → slice_get (design_of f).exprs x ≡ Some (signal_node x)
 unfolding design_of
-signal_there f x lt = in_first (signal_nodes f.signals) (operator_nodes f.signals f.lines) x (signal_node x) (place_there signal_node 0 x x f.signals (omega arith) lt)
+signal_there f x lt =
+    let e : slice_get (signal_nodes f.signals) x ≡ Some (signal_node x) = place_there signal_node 0 x x f.signals (omega arith) lt in
+    get_front (signal_nodes f.signals) (operator_nodes f.signals f.lines) x (slice_get_within (signal_nodes f.signals) x (signal_node x) e) ∙ e

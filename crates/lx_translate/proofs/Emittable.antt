@@ -2,8 +2,9 @@
 use Rattle.std.proofs.Common.{◌≡◌, ℕ, ◌+◌, ◌<◌, true, false, not, eqb, List, [], ◌∷◌, map, refl, sym, subst, ◌∙◌, arith, ne_eqb}
 use Rattle.std.specs.List.{list_all, list_any}
 use Rattle.std.specs.Str.{bytes_eq}
-use Rattle.std.proofs.lemmas.Bool.{and_from, eqb-false}
+use Rattle.std.proofs.lemmas.Bool.{and_from, eqb-false, not_from_false, or_from}
 use Rattle.std.proofs.lemmas.List.{length-map}
+use Rattle.std.proofs.Math.Bool.{and-true, and-false}
 use Rattle.lx_circuit.specs.Circuit as circuit
 use Rattle.lx_circuit.specs.Circuit.{Circuit}
 use Rattle.lx_circuit.specs.Reads.{HasOrder}
@@ -22,7 +23,6 @@ use Rattle.lx_form.specs.declared.file.File.{File}
 use Rattle.lx_form.specs.Form.{are_signals, are_lines, width_of}
 use Rattle.lx_translate.specs.FormDesign.{design_signal, design_of}
 use Rattle.lx_translate.specs.FormNames.{signal_name, names_of}
-use Rattle.lx_translate.proofs.Bools.{and_true, and_false, is_not, neither}
 use Rattle.lx_translate.proofs.Facts.{signal_fits, other_letter}
 use Rattle.lx_translate.proofs.Order.{has_order}
 use Rattle.lx_translate.proofs.Words.{letter_name}
@@ -45,19 +45,19 @@ not_named a (s ∷ ss) h none =
     let fits = signal_fits s ss h in
     let other = other_letter s ss a fits.some none in
     let differs : eqb a s.letter ≡ false = ne_eqb a s.letter (λ e. eqb-false s.letter a other.0 (sym e)) in
-    neither (bytes_eq (a ∷ []) (signal_name s)) (list_any (bytes_eq (a ∷ [])) (map signal_name ss)) (and_true (eqb a s.letter) ∙ differs) (not_named a ss fits.others other.1)
+    or_from (bytes_eq (a ∷ []) (signal_name s)) (list_any (bytes_eq (a ∷ [])) (map signal_name ss)) (and-true (eqb a s.letter) ∙ differs) (not_named a ss fits.others other.1)
 
 names_distinct : (ss : List Signal) → are_signals ss ≡ true → is_distinct (map signal_name ss) ≡ true
 names_distinct [] h = refl
 names_distinct (s ∷ ss) h =
     let fits = signal_fits s ss h in
     and_from (not (list_any (bytes_eq (signal_name s)) (map signal_name ss))) (is_distinct (map signal_name ss))
-    (is_not (list_any (bytes_eq (signal_name s)) (map signal_name ss)) (not_named s.letter ss fits.others fits.fresh)) (names_distinct ss fits.others)
+    (not_from_false (list_any (bytes_eq (signal_name s)) (map signal_name ss)) (not_named s.letter ss fits.others fits.fresh)) (names_distinct ss fits.others)
 
 no_node : (n : ℕ) (ss : List Signal) → is_among (node_name n) (map signal_name ss) ≡ false
 unfolding node_name
 no_node n [] = refl
-no_node n (s ∷ ss) = neither (bytes_eq (node_name n) (signal_name s)) (is_among (node_name n) (map signal_name ss)) (and_false (eqb 110 s.letter)) (no_node n ss)
+no_node n (s ∷ ss) = or_from (bytes_eq (node_name n) (signal_name s)) (is_among (node_name n) (map signal_name ss)) (and-false (eqb 110 s.letter)) (no_node n ss)
 
 names_fit : (f : File) → are_signals f.signals ≡ true → NamesFit (design_of f) (names_of f)
 unfolding design_of
@@ -74,13 +74,13 @@ names_fit f h = record {
 not_port : {T : Type 0} (n k : ℕ) (xs : List T) → n < k → circuit.is_among n (map signal_number (map the_signal (places_from k xs))) ≡ false
 not_port n k [] lt = refl
 not_port n k (x ∷ xs) lt =
-    neither (eqb k n) (circuit.is_among n (map signal_number (map the_signal (places_from (k + 1) xs)))) (ne_eqb k n (λ e. omega arith)) (not_port n (k + 1) xs (omega arith))
+    or_from (eqb k n) (circuit.is_among n (map signal_number (map the_signal (places_from (k + 1) xs)))) (ne_eqb k n (λ e. omega arith)) (not_port n (k + 1) xs (omega arith))
 
 ports_once : {T : Type 0} (k : ℕ) (xs : List T) → are_once (map signal_number (map the_signal (places_from k xs))) ≡ true
 ports_once k [] = refl
 ports_once k (x ∷ xs) =
     let rest = map signal_number (map the_signal (places_from (k + 1) xs)) in
-    and_from (not (circuit.is_among k rest)) (are_once rest) (is_not (circuit.is_among k rest) (not_port k (k + 1) xs (omega arith))) (ports_once (k + 1) xs)
+    and_from (not (circuit.is_among k rest)) (are_once rest) (not_from_false (circuit.is_among k rest) (not_port k (k + 1) xs (omega arith))) (ports_once (k + 1) xs)
 
 no_reset : (xs : List ℕ) → none_is_reset xs [] ≡ true
 no_reset [] = refl

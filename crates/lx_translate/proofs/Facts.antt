@@ -1,14 +1,13 @@
 -- What a file of the form keeps, signal by signal and line by line.
 use Rattle.std.proofs.Common.{◌≡◌, ℕ, ◌≤◌, ◌<◌, Bool, true, false, ◌&&◌, not, cond, eqb, ltb, leb, List, ◌∷◌, refl, sym, ◌∙◌, arith, inl, inr, eqb-true, eq-eqb, ne_eqb}
 use Rattle.std.specs.Prelude.{IsTrue}
-use Rattle.std.proofs.lemmas.Bool.{and_parts, leb-true, ltb-true, cases_eq}
+use Rattle.std.proofs.lemmas.Bool.{and_parts, leb-true, ltb-true, cases_eq, not-true}
 use Rattle.lx_form.specs.declared.file.Operator.{Operator}
 use Rattle.lx_form.specs.declared.file.Side.TheVariants as side
 use Rattle.lx_form.specs.declared.file.Signal.{Signal}
 use Rattle.lx_form.specs.declared.file.Line.{Line}
 use Rattle.lx_form.specs.declared.file.File.{File}
 use Rattle.lx_form.specs.Form.{is_lower, is_signal, are_signals, width_of, side_width, result_width, has_widths, is_assigned, reads_some, are_lines, is_class_name, has_signals, is_form}
-use Rattle.lx_translate.proofs.Bools.{not_true}
 
 pub record SignalFits (s : Signal) (ss : List Signal) : Type 0 where
   pub letter : is_lower s.letter ≡ true
@@ -38,7 +37,7 @@ line_fits ss l ls h =
     let q = and_parts (not (is_assigned l.target ls)) (not (reads_some l.side (l ∷ ls)) && are_lines ss ls) p.1 in
     let r = and_parts (not (reads_some l.side (l ∷ ls))) (are_lines ss ls) q.1 in
     let w = and_parts (ltb 0 (side_width ss l.side)) (eqb (width_of ss l.target) (side_width ss l.side)) p.0 in
-    record { some = ltb-true 0 (side_width ss l.side) w.0; target = eqb-true (width_of ss l.target) (side_width ss l.side) w.1; fresh = not_true (is_assigned l.target ls) q.0; unread = not_true (reads_some l.side (l ∷ ls)) r.0; others = r.1 }
+    record { some = ltb-true 0 (side_width ss l.side) w.0; target = eqb-true (width_of ss l.target) (side_width ss l.side) w.1; fresh = not-true (is_assigned l.target ls) q.0; unread = not-true (reads_some l.side (l ∷ ls)) r.0; others = r.1 }
 
 -- a signal that isn't made again has another letter
 pub other_letter : (s : Signal) (ss : List Signal) (a : ℕ) → 1 ≤ s.width → width_of (s ∷ ss) a ≡ 0 → (eqb s.letter a ≡ false) × (width_of ss a ≡ 0)

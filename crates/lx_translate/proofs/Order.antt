@@ -1,6 +1,7 @@
 -- The places of a description's signals, and an order of its reads.
-use Rattle.std.proofs.Common.{◌≡◌, ℕ, zero, suc, ◌+◌, ◌≤◌, ◌<◌, Bool, true, false, ◌&&◌, ◌||◌, cond, eqb, List, [], ◌∷◌, Some, slice_get, refl, sym, ap, subst, ◌∙◌, arith, inl, inr, ◌⊎◌, eq-eqb, ne_eqb, eqb-true}
-use Rattle.std.proofs.lemmas.Bool.{cases_eq, and_parts, true≢false}
+use Rattle.std.proofs.Common.{◌≡◌, ℕ, zero, suc, ◌+◌, ◌≤◌, ◌<◌, Bool, true, false, ◌&&◌, ◌||◌, cond, eqb, List, [], ◌∷◌, Some, slice_get, refl, sym, ap, subst, ◌∙◌, arith, inl, inr, eq-eqb, ne_eqb, eqb-true}
+use Rattle.std.proofs.lemmas.Bool.{cases_eq, and_parts, true≢false, or_parts, or_cases}
+use Rattle.std.proofs.Math.Bool.{or-false}
 use Rattle.lx_circuit.specs.Places.{Place, At, Word, Kept}
 use Rattle.lx_circuit.specs.Statements.{drives_block}
 use Rattle.lx_circuit.specs.Circuit.{Comb, Input, Undriven, made, is_among}
@@ -12,7 +13,6 @@ use Rattle.lx_form.specs.declared.file.Line.{Line}
 use Rattle.lx_form.specs.declared.file.File.{File}
 use Rattle.lx_form.specs.Form.{are_signals, are_lines, width_of, side_width, is_assigned, reads_some}
 use Rattle.lx_translate.specs.FormCircuit.{place_of, term_of, comb_of, circuit_of}
-use Rattle.lx_translate.proofs.Bools.{or_false}
 use Rattle.lx_translate.proofs.Facts.{signal_fits, LineFits, line_fits, both_made}
 
 -- ---- places
@@ -102,13 +102,9 @@ unassigned_order : (ss : List Signal) (ls : List Line) (a : ℕ) → are_lines s
 unassigned_order ss [] a h some none = refl
 unassigned_order ss (l ∷ ls) a h some none =
     let fits = line_fits ss l ls h in
-    let q = or_false (eqb l.target a) (is_assigned a ls) none in
+    let q = or_parts (eqb l.target a) (is_assigned a ls) none in
     let other : eqb (place_of ss l.target) (place_of ss a) ≡ false = place_test ss l.target a (target_made ss l ls fits) some ∙ q.0 in
     rw (unassigned_order ss ls a fits.others some q.1, other) refl
-
-or_true : (x y : Bool) → (x || y) ≡ true → (x ≡ true) ⊎ (y ≡ true)
-or_true true y e = inl refl
-or_true false y e = inr e
 
 operand_order : (ss : List Signal) (ls : List Line) (a y : ℕ) → are_lines ss ls ≡ true → 0 < width_of ss a → is_assigned a ls ≡ false → eqb (place_of ss a) y ≡ true → order_of ss ls y ≡ 0
 operand_order ss ls a y h some none e = subst (λ (z : ℕ). order_of ss ls z ≡ 0) (eqb-true (place_of ss a) y e) (unassigned_order ss ls a h some none)
@@ -119,24 +115,20 @@ side_order ss ls (side.Not x) y h some none e = operand_order ss ls x y h some n
 side_order ss ls (side.Both x o z) y h some none e =
     let m = both_made ss x z o some in
     let right : 0 < width_of ss z = omega (arith, m.left, m.same) in
-    let p = or_false (is_assigned x ls) (is_assigned z ls) none in
-    elim (or_true (eqb (place_of ss x) y) (eqb (place_of ss z) y) e) [
+    let p = or_parts (is_assigned x ls) (is_assigned z ls) none in
+    elim (or_cases (eqb (place_of ss x) y) (eqb (place_of ss z) y) e) [
       | inl q ↦ operand_order ss ls x y h m.left p.0 q
       | inr q ↦ operand_order ss ls z y h right p.1 q
     ]
-
-or_none : (b : Bool) → (b || false) ≡ b
-or_none true = refl
-or_none false = refl
 
 reads_fall : (ss : List Signal) (ls : List Line) (x y : ℕ) → are_lines ss ls ≡ true → reads_block x (At y) (comb_of ss ls) ≡ true → order_of ss ls y < order_of ss ls x
 reads_fall ss [] x y h e = absurd cc
 reads_fall ss (l ∷ ls) x y h e =
     let fits = line_fits ss l ls h in
-    elim (or_true (eqb (place_of ss l.target) x && (names (At y) (term_of ss l.side) || false)) (reads_block x (At y) (comb_of ss ls)) e) [
+    elim (or_cases (eqb (place_of ss l.target) x && (names (At y) (term_of ss l.side) || false)) (reads_block x (At y) (comb_of ss ls)) e) [
       | inl p ↦
           let q = and_parts (eqb (place_of ss l.target) x) (names (At y) (term_of ss l.side) || false) p in
-          let named : names (At y) (term_of ss l.side) ≡ true = sym (or_none (names (At y) (term_of ss l.side))) ∙ q.1 in
+          let named : names (At y) (term_of ss l.side) ≡ true = sym (or-false (names (At y) (term_of ss l.side))) ∙ q.1 in
           let low = side_order ss (l ∷ ls) l.side y h fits.some fits.unread named in
           let high : 1 ≤ order_of ss (l ∷ ls) x = rw q.0 (order_some (order_of ss ls x)) in
           omega (arith, low, high)
@@ -184,7 +176,7 @@ reads_own : (f : File) (x : ℕ) (y : Place) → reads_in (circuit_of f) x y ≡
 reads_own f x y e =
     let c = circuit_of f in
     let none = none_shown f x y (drives_block x c.comb) (made c x).given (is_among x c.ios || false) in
-    sym (or_none (reads_block x y c.comb)) ∙ sym (ap (λ b. reads_block x y c.comb || b) none) ∙ e
+    sym (or-false (reads_block x y c.comb)) ∙ sym (ap (λ b. reads_block x y c.comb || b) none) ∙ e
 
 pub has_order : (f : File) → are_lines f.signals f.lines ≡ true → HasOrder (circuit_of f)
 has_order f h = record { rank = rank_of f; after = λ x y e. falls f h x y (reads_own f x y e) }

@@ -1,7 +1,6 @@
 -- Items of lists at their places.
-use Rattle.std.proofs.Common.{◌≡◌, ℕ, zero, suc, ◌+◌, ◌<◌, Bool, true, List, [], ◌∷◌, ◌++◌, length, map, drop, append_assoc, Option, Some, None, refl, sym, ap, subst, ◌∙◌, arith}
-use Rattle.std.specs.Prelude.{slice_get, IfSome, IsTrue}
-use Rattle.lx_arena.specs.Lower.{EachLower}
+use Rattle.std.proofs.Common.{◌≡◌, ℕ, zero, suc, ◌+◌, ◌<◌, List, [], ◌∷◌, ◌++◌, length, map, drop, append_assoc, Some, refl, sym, ap, subst, ◌∙◌, arith}
+use Rattle.std.specs.Prelude.{slice_get}
 use Rattle.lx_emission.specs.Emission.{places_from}
 
 -- a fact of each item at its place, from place k on
@@ -48,12 +47,6 @@ tail_next all k x xs t i =
     let e : k + 1 + i ≡ k + suc i = omega arith in
     ap (slice_get all) e ∙ t (suc i)
 
--- an item of the first of two lists
-pub in_first : {T : Type 0} (xs ys : List T) (k : ℕ) (x : T) → slice_get xs k ≡ Some x → slice_get (xs ++ ys) k ≡ Some x
-in_first [] ys k x e = absurd cc
-in_first (y ∷ xs) ys zero x e = e
-in_first (y ∷ xs) ys (suc k) x e = in_first xs ys k x e
-
 -- ---- lists of places
 
 pub places_long : {T : Type 0} (k : ℕ) (xs : List T) → length (places_from k xs) ≡ length xs
@@ -80,12 +73,3 @@ pub places_more : {A T : Type 0} (f : ℕ → A) (done now : List A) (k : ℕ) (
 places_more f done now k xs e lt =
     let rest = map f (places_from (k + 1) (drop (k + 1) xs)) in
     ap (λ ys. ys ++ rest) e ∙ append_assoc done (f k ∷ []) rest ∙ ap (λ ps. done ++ map f ps) (sym (places_left k k xs lt))
-
--- ---- nodes whose children are lower
-
-pub each_lower : {T : Type 0} (below : T → ℕ → Bool) (xs : List T) → ((k : ℕ) (x : T) → slice_get xs k ≡ Some x → below x k ≡ true) → EachLower below xs
-each_lower {T} below xs f k = at_place (slice_get xs k) (f k)
-  where
-    at_place : (o : Option T) → ((x : T) → o ≡ Some x → below x k ≡ true) → IfSome o (λ x. IsTrue (below x k))
-    at_place None g = tt
-    at_place (Some x) g = g x refl

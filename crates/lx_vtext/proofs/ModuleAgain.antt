@@ -221,10 +221,7 @@ not_memory false (Some hi) n r h = not_memory_bits hi n r h
 
 not_memory_head : (signed : Bool) (hi : Option ℕ) (n r : List ℕ) → IsTrue (is_name n) → memory_head_at (head_text signed hi n ++ (codes " = " ++ r)) ≡ None
 unfolding head_text
-not_memory_head signed hi n r h = ap memory_head_at (join2 (signed_text signed) (bits_text hi) n (codes " = " ++ r)) ∙ not_memory signed hi n r h
-  where
-    join2 : (a b c d : List ℕ) → ((a ++ b) ++ c) ++ d ≡ a ++ (b ++ (c ++ d))
-    join2 a b c d = simp append_assoc refl
+not_memory_head signed hi n r h = ap memory_head_at (join3 (signed_text signed) (bits_text hi) n (codes " = " ++ r)) ∙ not_memory signed hi n r h
 
 join5 : (a b c d e r : List ℕ) → ((((a ++ b) ++ c) ++ d) ++ e) ++ r ≡ a ++ (b ++ (c ++ (d ++ (e ++ r))))
 join5 a b c d e r = simp append_assoc refl

@@ -1,7 +1,7 @@
 -- What reads as a module is its text.
 use Rattle.std.proofs.Common.{◌≡◌, ℕ, zero, suc, ◌+◌, ◌-◌, ◌≤◌, Bool, true, false, cond, ◌==◌, List, [], ◌∷◌, ◌++◌, length, Option, Some, None, IfSome, IsTrue, nat_le, flat_map, codes, refl, sym, ap, ◌∙◌, append_assoc, append-nil, arith, leb-true}
 use Rattle.std.specs.List.{AllByRecursion}
-use Rattle.std.proofs.lemmas.Bool.{eqb-false}
+use Rattle.std.proofs.lemmas.Bool.{eqb-false, false≢true}
 use Rattle.lx_vtext.specs.Names.{is_name}
 use Rattle.lx_vtext.specs.Tree.{Name, VNet, VPort, VDecl, NetDecl, MemoryDecl, VSet, VModule}
 use Rattle.lx_vtext.specs.Fits.{IsNet, IsPort, IsDecl, IsSet, IsAssign, IsAlways, IsModule}
@@ -116,14 +116,11 @@ input_takes bytes whole w =
     and_then (after_takes (codes "wire ") bytes) (λ r a. and_then (wire_takes r bytes a) (λ n g.
     gives_some {P = GoodPort whole} (port_of true n.0, n.1) (record { net = g.0; wire = λ e. g.1 }, w ∙ ap (λ x. codes "    input " ++ x) g.2 ∙ sym (append_assoc (codes "    input ") (net_text n.0) n.1))))
 
-false_true : false ≡ true → ⊥
-false_true e = absurd cc
-
 output_takes : (bytes whole : List ℕ) → whole ≡ codes "    output " ++ bytes → Gives (output_at bytes) (GoodPort whole)
 unfolding output_at
 output_takes bytes whole w =
     and_then (net_takes bytes) (λ n g.
-    gives_some {P = GoodPort whole} (port_of false n.0, n.1) (record { net = g.0; wire = λ e. absurd (false_true e) }, w ∙ ap (λ x. codes "    output " ++ x) g.1 ∙ sym (append_assoc (codes "    output ") (net_text n.0) n.1)))
+    gives_some {P = GoodPort whole} (port_of false n.0, n.1) (record { net = g.0; wire = λ e. absurd (false≢true e) }, w ∙ ap (λ x. codes "    output " ++ x) g.1 ∙ sym (append_assoc (codes "    output ") (net_text n.0) n.1)))
 
 port_takes : (bytes : List ℕ) → Gives (port_at bytes) (GoodPort bytes)
 unfolding port_at

@@ -1,28 +1,16 @@
 -- Words, names, numbers and literals are read again where they were printed.
-use Rattle.std.proofs.Common.{◌≡◌, ℕ, ◌+◌, ◌-◌, ◌<◌, ◌≤◌, Bool, true, false, cond, not, ◌&&◌, ◌||◌, ◌==◌, List, [], ◌∷◌, ◌++◌, map, length, Some, None, IsTrue, nat_eq, bytes_eq, codes, refl, sym, ap, ◌∙◌, append_assoc, arith, eq-eqb, le-leb, eqb-true, length-append}
+use Rattle.std.proofs.Common.{◌≡◌, ℕ, ◌+◌, ◌-◌, ◌<◌, ◌≤◌, Bool, true, false, cond, not, ◌&&◌, ◌||◌, ◌==◌, List, [], ◌∷◌, ◌++◌, map, length, Some, None, IsTrue, codes, refl, sym, ap, ◌∙◌, append_assoc, arith, eq-eqb, le-leb, eqb-true, length-append}
 use Rattle.std.specs.List.{list_all, AllByRecursion}
 use Rattle.std.specs.Int.Digits.{digits_of}
 use Rattle.std.proofs.lemmas.Option.{same_Some}
 use Rattle.std.proofs.lemmas.Int.Digits.{number_digits_of, all_below_base_digits_of}
+use Rattle.std.proofs.lemmas.Slice.Eq.{bytes_eq-Decides}
 use Rattle.lx_vtext.specs.Names.{is_digit, is_name_start, is_name_byte, is_spelled, is_name}
 use Rattle.lx_vtext.specs.Tree.{Name, Literal, VLiteral}
 use Rattle.lx_vtext.specs.Fits.{is_literal, IsValue}
 use Rattle.lx_vtext.specs.Printed.{number_text, base_text, literal_text, value_text}
 use Rattle.lx_vtext.specs.Reading.{after, front, behind, name_at, number_value, number_at, range_at, sign_at, value_at, literal_at}
 pub use Rattle.std.proofs.lemmas.Bool.{and_parts as both}
-
-pub join_and : (a b : Bool) → a ≡ true → b ≡ true → (a && b) ≡ true
-join_and a b p q = rw (p, q) refl
-
-pub bytes_eq_same : (xs : List ℕ) → bytes_eq xs xs ≡ true
-bytes_eq_same [] = refl
-bytes_eq_same (x ∷ xs) = rw (eq-eqb x x refl) (bytes_eq_same xs)
-
-pub bytes_eq_is : (xs ys : List ℕ) → bytes_eq xs ys ≡ true → xs ≡ ys
-bytes_eq_is [] [] e = refl
-bytes_eq_is [] (y ∷ ys) e = absurd cc
-bytes_eq_is (x ∷ xs) [] e = absurd cc
-bytes_eq_is (x ∷ xs) (y ∷ ys) e = let h = both (nat_eq x y) (bytes_eq xs ys) e in ap (λ z. z ∷ xs) (eqb-true x y h.0) ∙ ap (λ zs. y ∷ zs) (bytes_eq_is xs ys h.1)
 
 -- ---- words
 
@@ -124,19 +112,16 @@ pub number_again : (n : ℕ) (rest : List ℕ) → stops is_digit rest ≡ true 
 unfolding number_at
 number_again n rest s =
     let k = front_is is_digit (number_text n) rest (number_back n).1 s in
-    rw (k.0, k.1, (number_back n).0, bytes_eq_same (number_text n)) refl
+    rw (k.0, k.1, (number_back n).0, (bytes_eq-Decides (number_text n) (number_text n)).1 refl) refl
 
 zero_text : number_text 0 ≡ 48 ∷ []
 unfolding number_text
 zero_text = refl
 
-cons_nil : (x : ℕ) (xs : List ℕ) → x ∷ xs ≡ [] → ⊥
-cons_nil x xs e = absurd cc
-
 not_empty : (m : ℕ) → number_text m ≡ [] → ⊥
 not_empty m e =
     let z : 0 ≡ m = ap number_value (sym e) ∙ (number_back m).0 in
-    cons_nil 48 [] (sym zero_text ∙ ap number_text z ∙ e)
+    omega (arith, ap length (sym zero_text ∙ ap number_text z ∙ e))
 
 -- a number's text begins with a digit
 pub number_starts : (n : ℕ) → (b : ℕ) × (bs : List ℕ) × (number_text n ≡ b ∷ bs) × (is_digit b ≡ true)

@@ -1,6 +1,7 @@
 -- Two modules and their texts, byte for byte.
 use Rattle.std.proofs.Common.{◌≡◌, ℕ, Bool, true, false, List, [], ◌∷◌, Some, None, IsTrue, ◌≤◌, refl, arith}
 use Rattle.std.specs.Prelude.{codes}
+use Rattle.std.proofs.lemmas.Bool.{false≢true}
 use Rattle.lx_vtext.specs.declared.operators.BinOp.TheVariants as op
 use Rattle.lx_vtext.specs.declared.operators.UnOp.TheVariants as unary
 use Rattle.lx_tables.specs.VerilogWords.{verilog_words}
@@ -63,13 +64,10 @@ and_fits = record {
   always = tt;
 }
 
-false_true : false ≡ true → ⊥
-false_true e = absurd cc
-
 pub flip_fits : IsModule flip_module
 unfolding is_name verilog_words
 flip_fits = record {
-  ports = (port_fits true 1 (codes "sys_clk") (omega arith) refl, (port_fits true 1 (codes "sys_rst") (omega arith) refl, (port_fits true 1 (codes "c") (omega arith) refl, (record { net = record { name = refl; bits = omega arith; init = refl }; wire = λ e. absurd (false_true e) }, tt))));
+  ports = (port_fits true 1 (codes "sys_clk") (omega arith) refl, (port_fits true 1 (codes "sys_rst") (omega arith) refl, (port_fits true 1 (codes "c") (omega arith) refl, (record { net = record { name = refl; bits = omega arith; init = refl }; wire = λ e. absurd (false≢true e) }, tt))));
   decls = (wire_fits 2 (codes "n$0") (omega arith) refl, tt);
   inits = tt;
   assigns = (record { name = refl; value = refl }, tt);

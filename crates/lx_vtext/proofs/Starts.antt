@@ -1,15 +1,12 @@
 -- How the text of an expression begins, which tells the forms apart.
-use Rattle.std.proofs.Common.{◌≡◌, ℕ, zero, suc, ◌+◌, ◌≤◌, Bool, true, false, ◌&&◌, ◌||◌, ◌==◌, ◌⊎◌, inl, inr, List, [], ◌∷◌, ◌++◌, None, IsTrue, nat_le, codes, refl, sym, ap, ◌∙◌, append_assoc, arith, eqb-true, leb-true}
+use Rattle.std.proofs.Common.{◌≡◌, ℕ, zero, suc, ◌+◌, ◌≤◌, Bool, true, false, ◌&&◌, ◌==◌, ◌⊎◌, inl, inr, List, [], ◌∷◌, ◌++◌, None, IsTrue, nat_le, codes, refl, sym, ap, ◌∙◌, append_assoc, arith, eqb-true, leb-true}
+use Rattle.std.proofs.lemmas.Bool.{or_cases}
 use Rattle.lx_vtext.specs.Names.{is_digit, is_name_start, is_spelled, is_name}
 use Rattle.lx_vtext.specs.Tree.{Name, VExpr, Net, Literal, PartSelect, Word, Unary, Binary, Conditional, Concatenation, Replication, ToSigned, ToUnsigned}
 use Rattle.lx_vtext.specs.Fits.{IsExpr}
 use Rattle.lx_vtext.specs.Printed.{number_text, base_text, literal_text, range_text, expr_text}
 use Rattle.lx_vtext.specs.Reading.{after, number_at, range_at, count_at, unary_of, start_of, Letter, Digit}
 use Rattle.lx_vtext.proofs.Pieces.{both, spelled, number_again, number_starts, stops}
-
-or_cases : (a b : Bool) → (a || b) ≡ true → (a ≡ true) ⊎ (b ≡ true)
-or_cases true b e = inl refl
-or_cases false b e = inr e
 
 -- a byte that passes the test is not one that fails it
 pub differs : (p : ℕ → Bool) (b c : ℕ) → p b ≡ true → p c ≡ false → (b == c) ≡ false

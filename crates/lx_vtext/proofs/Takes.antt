@@ -1,5 +1,6 @@
 -- What reads as an expression or a statement is its text.
 use Rattle.std.proofs.Common.{◌≡◌, ℕ, zero, suc, ◌+◌, true, false, List, [], ◌∷◌, ◌++◌, length, Option, Some, None, IsTrue, codes, refl, sym, ap, ◌∙◌, append_assoc}
+use Rattle.std.proofs.lemmas.Slice.Eq.{bytes_eq-Decides}
 use Rattle.lx_vtext.specs.declared.operators.BinOp.{BinOp}
 use Rattle.lx_vtext.specs.declared.operators.UnOp.{UnOp}
 use Rattle.lx_vtext.specs.declared.operators.UnOp.TheVariants as unary
@@ -8,7 +9,7 @@ use Rattle.lx_vtext.specs.Tree.{Name, VExpr, Net, Literal, PartSelect, Word, Una
 use Rattle.lx_vtext.specs.Fits.{IsValue, IsExpr, AreExprs, IsTarget, IsStmt, IsBlock}
 use Rattle.lx_vtext.specs.Printed.{number_text, base_text, literal_text, range_text, value_text, expr_text, more_text, unary_text, op_text, indent, target_text, sets_text, stmt_text, block_text}
 use Rattle.lx_vtext.specs.Reading.{◌>>=◌, Reader, after, front, behind, name_at, number_value, number_at, range_at, sign_at, value_at, literal_at, word_of, named_at, unary_of, unary_at, ops, find_op, not_blank, op_at, choose_at, binary_at, joined_at, round_at, with_part, more_at, parts_at, count_at, repeat_at, curly_at, to_signed_at, to_unsigned_at, sign_form_at, start_of, Start, Letter, Digit, Round, Curly, Dollar, Other, leaf_at, form_at, nothing_at, expr_at, word_target_of, target_at, sets_at, assign_stmt_at, Blocks, else_at, end_at, when_at, stmt_at, with_stmt, stmts_at, block_at}
-use Rattle.lx_vtext.proofs.Pieces.{bytes_eq_is, after_is, front_behind}
+use Rattle.lx_vtext.proofs.Pieces.{after_is, front_behind}
 use Rattle.lx_vtext.proofs.Gives.{Gives, gives_none, gives_some, and_then, if_given, if_true, if_true_or, weaken}
 
 -- ---- leaves
@@ -23,7 +24,7 @@ name_takes bytes = if_true (λ e. gives_some (front is_name_byte bytes, behind i
 pub number_takes : (bytes : List ℕ) → Gives (number_at bytes) (λ y. bytes ≡ number_text y.0 ++ y.1)
 unfolding number_at
 number_takes bytes =
-    if_true (λ e. gives_some (number_value (front is_digit bytes), behind is_digit bytes) (front_behind is_digit bytes ∙ ap (λ x. x ++ behind is_digit bytes) (sym (bytes_eq_is _ _ e))))
+    if_true (λ e. gives_some (number_value (front is_digit bytes), behind is_digit bytes) (front_behind is_digit bytes ∙ ap (λ x. x ++ behind is_digit bytes) (sym ((bytes_eq-Decides (number_text (number_value (front is_digit bytes))) (front is_digit bytes)).0 e))))
 
 pub range_takes : (bytes : List ℕ) → Gives (range_at bytes) (λ y. codes "[" ++ bytes ≡ range_text y.0.0 y.0.1 ++ y.1)
 unfolding range_at range_text
@@ -78,7 +79,7 @@ unary_takes read d o bytes whole t w =
 
 found : (os : List BinOp) (word : List ℕ) → Gives (find_op os word) (λ o. op_text o ≡ word)
 found [] word = gives_none
-found (o ∷ os) word = if_true_or (λ e. gives_some o (bytes_eq_is (op_text o) word e)) (λ e. found os word)
+found (o ∷ os) word = if_true_or (λ e. gives_some o ((bytes_eq-Decides (op_text o) word).0 e)) (λ e. found os word)
 
 op_takes : (bytes : List ℕ) → Gives (op_at bytes) (λ y. bytes ≡ op_text y.0 ++ y.1)
 unfolding op_at
