@@ -22,13 +22,6 @@ use lx_vprint::print;
 use lx_write::write_module;
 use std::alloc::Global;
 use std::marker::PhantomData;
-use std::test::Fail;
-
-const TOGGLE: &[u8] =
-    b"module top (\n    input wire sys_clk,\n    input wire sys_rst,\n    input wire c,\n    output reg [1:0] q = 2'd1\n);\nwire [1:0] n$0;\nassign n$0 = (~q);\nalways @(posedge sys_clk) begin\n    if (c) begin\n        q <= n$0;\n    end\n    if (sys_rst) begin\n        q <= 2'd1;\n    end\nend\nendmodule\n";
-
-const SWAP: &[u8] =
-    b"module top (\n    input wire sys_clk,\n    input wire pix_clk,\n    input wire pix_rst,\n    output reg [1:0] a = 2'd1,\n    output reg [1:0] b = 2'd2\n);\nalways @(posedge sys_clk) begin\n    a <= b;\nend\nalways @(posedge pix_clk) begin\n    b <= a;\n    if (pix_rst) begin\n        b <= 2'd2;\n    end\nend\nendmodule\n";
 
 fn the_expr(place: usize) -> ExprId
     ensures { result ≡ instance.the_expr place }
@@ -336,21 +329,19 @@ fn swap_whole(alloc: Global) -> Result<Text, NoMemory> {
     written_whole(alloc, &design, &names)
 }
 
-#[test]
-fn designs_are_written(rt: HostRuntime) -> Result<(), Fail> {
-    let toggled = toggle_text(rt.alloc())?;
-    assert_eq!(rt; toggled.as_bytes(), TOGGLE);
-    let swapped = swap_text(rt.alloc())?;
-    assert_eq!(rt; swapped.as_bytes(), SWAP);
-    Ok(())
+/// The texts of both designs, by way of their modules, then by way of their lowered designs too: they are lowered
+/// already, so that lowering changes no byte.
+pub(crate) fn show_all(alloc: Global, out: &mut Text) -> Result<(), NoMemory> {
+    show(b"toggle", toggle_text(alloc), out)?;
+    show(b"swap", swap_text(alloc), out)?;
+    show(b"toggle, lowered", toggle_whole(alloc), out)?;
+    show(b"swap, lowered", swap_whole(alloc), out)
 }
 
-// they are lowered already, so that lowering changes no byte
-#[test]
-fn lowered_designs_are_written(rt: HostRuntime) -> Result<(), Fail> {
-    let toggled = toggle_whole(rt.alloc())?;
-    assert_eq!(rt; toggled.as_bytes(), TOGGLE);
-    let swapped = swap_whole(rt.alloc())?;
-    assert_eq!(rt; swapped.as_bytes(), SWAP);
-    Ok(())
+fn show(name: &[u8], text: Result<Text, NoMemory>, out: &mut Text) -> Result<(), NoMemory> {
+    let text = text?;
+    out.word(b"== ")?;
+    out.word(name)?;
+    out.word(b"\n")?;
+    out.word(text.as_bytes())
 }
