@@ -74,19 +74,24 @@ pub(crate) fn pairs(
     own: &[Growing],
 ) -> Result<List<Pair>, NoMemory> {
     let mut files = List::new(alloc);
-    for file in shared {
-        files.push(pair(alloc, file)?)?;
-    }
-    for file in own {
-        files.push(pair(alloc, file)?)?;
-    }
+    add_pairs(alloc, shared, &mut files)?;
+    add_pairs(alloc, own, &mut files)?;
     Ok(files)
 }
 
-fn pair(alloc: Global, file: &Growing) -> Result<Pair, NoMemory> {
+fn add_pairs(alloc: Global, more: &[Growing], files: &mut List<Pair>) -> Result<(), NoMemory> {
+    for file in more {
+        add_pair(alloc, file, files)?;
+    }
+    Ok(())
+}
+
+fn add_pair(alloc: Global, file: &Growing, files: &mut List<Pair>) -> Result<(), NoMemory> {
     let name = Word::new(alloc, file.name.as_bytes())?;
-    let bytes = List::from_vec(Vec::from_slice(alloc, file.bytes.as_slice())?);
-    Ok(Pair { name, bytes })
+    let bytes = Vec::from_slice(alloc, file.bytes.as_slice())?;
+    let bytes = List::from_vec(bytes);
+    files.push(Pair { name, bytes })?;
+    Ok(())
 }
 
 /// The bytes of the file of a name, or none.

@@ -14,26 +14,56 @@ use std::alloc::Global;
 
 /// Runs all cases, one after the other.
 pub(crate) fn run_all(alloc: Global, source: &[u8], out: &mut Text) -> Result<(), NoMemory> {
-    let mut shared = Case::new(alloc);
-    let mut case = Case::new(alloc);
-    let mut is_first = true;
+    let mut read = Cases {
+        shared: Case::new(alloc),
+        case: Case::new(alloc),
+        is_first: true,
+    };
     let mut number = 0u64;
     for line in source.split(|byte| *byte == b'\n') {
         number = number.saturating_add(1);
-        if let [b'=', b'=', b' ', name @ ..] = line {
-            let done = std::mem::replace(&mut case, Case::new(alloc));
-            if is_first {
-                shared = done;
-            } else {
-                run_case(alloc, shared.files.as_slice(), done, out)?;
-            }
-            is_first = false;
-            begin(name, out)?;
-        } else {
-            read_line(alloc, line, number, &mut case)?;
-        }
+        take_line(alloc, line, number, &mut read, out)?;
     }
-    run_case(alloc, shared.files.as_slice(), case, out)
+    run_last(alloc, read, out)
+}
+
+// What is read: the files that all cases share, and the case whose lines come.
+#[derive(Drop)]
+struct Cases {
+    shared: Case,
+    case: Case,
+    is_first: bool,
+}
+
+fn run_last(alloc: Global, read: Cases, out: &mut Text) -> Result<(), NoMemory> {
+    run_case(alloc, read.shared.files.as_slice(), read.case, out)
+}
+
+fn take_line(
+    alloc: Global,
+    line: &[u8],
+    number: u64,
+    read: &mut Cases,
+    out: &mut Text,
+) -> Result<(), NoMemory> {
+    match line {
+        [b'=', b'=', b' ', name @ ..] => {
+            end_case(alloc, read, out)?;
+            begin(name, out)
+        }
+        _ => read_line(alloc, line, number, &mut read.case),
+    }
+}
+
+// What stands before the first heading is shared by all cases; each later heading ends a case.
+fn end_case(alloc: Global, read: &mut Cases, out: &mut Text) -> Result<(), NoMemory> {
+    let done = std::mem::replace(&mut read.case, Case::new(alloc));
+    if read.is_first {
+        read.shared = done;
+        read.is_first = false;
+        return Ok(());
+    }
+    run_case(alloc, read.shared.files.as_slice(), done, out)
 }
 
 fn begin(name: &[u8], out: &mut Text) -> Result<(), NoMemory> {
@@ -43,15 +73,19 @@ fn begin(name: &[u8], out: &mut Text) -> Result<(), NoMemory> {
 }
 
 fn read_line(alloc: Global, line: &[u8], number: u64, case: &mut Case) -> Result<(), NoMemory> {
-    let is_read = match line {
-        [] | [b'#', ..] => true,
-        [b' ', text @ ..] => add_text(text, &mut case.files)?,
-        _ => read_key(alloc, line, case)?,
-    };
+    let is_read = add_line(alloc, line, case)?;
     if !is_read && case.unread.is_none() {
         case.unread = Some(number);
     }
     Ok(())
+}
+
+fn add_line(alloc: Global, line: &[u8], case: &mut Case) -> Result<bool, NoMemory> {
+    match line {
+        [] | [b'#', ..] => Ok(true),
+        [b' ', text @ ..] => add_text(text, &mut case.files),
+        _ => read_key(alloc, line, case),
+    }
 }
 
 // A line of the last file.
@@ -76,16 +110,20 @@ fn read_key(alloc: Global, line: &[u8], case: &mut Case) -> Result<bool, NoMemor
         "cut" => Ok(cut(&mut case.files)),
         "fill" => fill(rest, &mut case.files),
         "fail" => add_fail(rest, case),
-        "kinds" => {
-            case.ask = Ask::Kinds(Word::new(alloc, rest.as_bytes())?);
-            Ok(true)
-        }
-        "places" => {
-            case.ask = Ask::Places(Word::new(alloc, rest.as_bytes())?);
-            Ok(true)
-        }
+        "kinds" => ask_kinds(alloc, rest, &mut case.ask),
+        "places" => ask_places(alloc, rest, &mut case.ask),
         _ => Ok(false),
     }
+}
+
+fn ask_kinds(alloc: Global, name: &str, ask: &mut Ask) -> Result<bool, NoMemory> {
+    *ask = Ask::Kinds(Word::new(alloc, name.as_bytes())?);
+    Ok(true)
+}
+
+fn ask_places(alloc: Global, name: &str, ask: &mut Ask) -> Result<bool, NoMemory> {
+    *ask = Ask::Places(Word::new(alloc, name.as_bytes())?);
+    Ok(true)
 }
 
 fn add_words(alloc: Global, rest: &str, words: &mut List<Word>) -> Result<bool, NoMemory> {
@@ -93,7 +131,7 @@ fn add_words(alloc: Global, rest: &str, words: &mut List<Word>) -> Result<bool, 
         return Ok(true);
     }
     for word in rest.split(' ') {
-        words.push(Word::new(alloc, word.as_bytes())?)?;
+        let _added = add_word(alloc, word, words)?;
     }
     Ok(true)
 }
@@ -126,11 +164,15 @@ fn fill(rest: &str, files: &mut Vec<Growing>) -> Result<bool, NoMemory> {
     let Ok(byte) = u8::try_from(byte) else {
         return Ok(false);
     };
-    let Some(file) = files.last_mut() else {
-        return Ok(false);
-    };
+    match files.last_mut() {
+        Some(file) => push_all(count, byte, &mut file.bytes),
+        None => Ok(false),
+    }
+}
+
+fn push_all(count: u64, byte: u8, bytes: &mut Vec<u8>) -> Result<bool, NoMemory> {
     for _ in 0..count {
-        file.bytes.push(byte)?;
+        bytes.push(byte)?;
     }
     Ok(true)
 }
@@ -151,22 +193,29 @@ fn number(text: &str) -> Option<u64> {
 
 fn add_fail(rest: &str, case: &mut Case) -> Result<bool, NoMemory> {
     let (form, rest) = rest.split_once(' ').unwrap_or((rest, ""));
-    if form == "load" {
-        let Some(call) = number(rest) else {
-            return Ok(false);
-        };
-        case.fails.loads.push(call)?;
-        return Ok(true);
+    match form {
+        "load" => add_call(rest, &mut case.fails.loads),
+        "store" => add_cut(rest, &mut case.fails.stores),
+        "say" => add_cut(rest, &mut case.fails.says),
+        "tell" => add_cut(rest, &mut case.fails.tells),
+        _ => Ok(false),
     }
+}
+
+// A load that fails.
+fn add_call(rest: &str, loads: &mut List<u64>) -> Result<bool, NoMemory> {
+    let Some(call) = number(rest) else {
+        return Ok(false);
+    };
+    loads.push(call)?;
+    Ok(true)
+}
+
+// A call that fails after so many bytes.
+fn add_cut(rest: &str, fails: &mut List<Fail>) -> Result<bool, NoMemory> {
     let Some((call, taken)) = two_numbers(rest) else {
         return Ok(false);
     };
-    let fail = Fail { call, taken };
-    match form {
-        "store" => case.fails.stores.push(fail)?,
-        "say" => case.fails.says.push(fail)?,
-        "tell" => case.fails.tells.push(fail)?,
-        _ => return Ok(false),
-    }
+    fails.push(Fail { call, taken })?;
     Ok(true)
 }

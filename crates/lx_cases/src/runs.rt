@@ -1,5 +1,7 @@
 //! A case is run, and what comes of it is shown.
 
+ghost use Rattle.std.specs.Prelude.{◌<◌, length};
+
 use crate::case::{Ask, Case, Fails, Growing, bytes_of, pairs};
 use crate::showing::{show, show_number};
 use crate::tokens::{show_kinds, show_places};
@@ -95,11 +97,18 @@ fn call(alloc: Global, words: &[Word], outside: &mut Outside) -> Status {
     )
 }
 
+// The file that was stored in this place.
+fn show_stored(sink: &MemSink, place: usize, out: &mut Text) -> Result<(), NoMemory>
+    requires { place < length sink.now.pairs }
+{
+    out.word(b"stored ")?;
+    show(out, sink.name(place), sink.bytes(place))
+}
+
 fn show_outside(status: Status, outside: &Outside, out: &mut Text) -> Result<(), NoMemory> {
     show_number(out, b"status ", status.number() as u64)?;
     for place in 0..outside.sink.count() {
-        out.word(b"stored ")?;
-        show(out, outside.sink.name(place), outside.sink.bytes(place))?;
+        show_stored(&outside.sink, place, out)?;
     }
     show(out, b"said", outside.con.bytes())?;
     show(out, b"told", outside.err.bytes())

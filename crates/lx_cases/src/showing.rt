@@ -8,16 +8,20 @@ pub(crate) fn show(out: &mut Text, heading: &[u8], bytes: &[u8]) -> Result<(), N
     out.word(b"\n")?;
     let mut is_fresh = true;
     for byte in bytes {
-        if is_fresh {
-            out.word(b" ")?;
-        }
-        show_byte(out, *byte)?;
+        show_next(out, is_fresh, *byte)?;
         is_fresh = *byte == b'\n';
     }
     if is_fresh {
         return Ok(());
     }
     out.word(b"\ncut\n")
+}
+
+fn show_next(out: &mut Text, is_fresh: bool, byte: u8) -> Result<(), NoMemory> {
+    if is_fresh {
+        out.word(b" ")?;
+    }
+    show_byte(out, byte)
 }
 
 // A byte, as `\xHH` where it isn't printable text or a line end.
