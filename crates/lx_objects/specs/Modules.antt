@@ -1,0 +1,208 @@
+-- Modules: their attributes, and what is added to them.
+use Rattle.std.specs.Prelude.{◌≡◌, ℕ, zero, suc, Bool, true, false, ◌+◌, nat_lt, List, [], ◌∷◌, ◌++◌, length, map, slice_get, Option, Some, None, if◌then◌else◌}
+use Rattle.lx_text.specs.Limits.{limit_number}
+use Rattle.lx_text.specs.declared.faults.LimitKind.{LimitKind}
+use Rattle.lx_text.specs.declared.faults.LimitKind.TheVariants as limit
+use Rattle.lx_text.specs.declared.faults.Kind.TheVariants as kind
+use Rattle.lx_names.specs.Tables.{look_up, place_of, with_name}
+use Rattle.lx_state.specs.declared.values.Value.{Value}
+use Rattle.lx_state.specs.declared.values.Value.TheVariants as value
+use Rattle.lx_state.specs.declared.machine.Binding.TheVariants as binding
+use Rattle.lx_state.specs.declared.machine.Leaves.TheVariants as leaves
+use Rattle.lx_state.specs.declared.machine.Machine.{Machine}
+use Rattle.lx_state.specs.declared.machine.Module.{Module}
+use Rattle.lx_state.specs.declared.machine.ModuleKind.{ModuleKind}
+use Rattle.lx_state.specs.declared.machine.ModuleKind.TheVariants as bases
+use Rattle.lx_state.specs.declared.machine.Object.{Object}
+use Rattle.lx_state.specs.declared.machine.SyncItem.{SyncItem}
+use Rattle.lx_state.specs.declared.machine.What.{What}
+use Rattle.lx_state.specs.declared.machine.What.TheVariants as what
+use Rattle.lx_state.specs.Naming.{bind_name, object_made}
+use Rattle.lx_objects.specs.Statements.{all_of, only, statements_of}
+use Rattle.lx_state.specs.Changes.{changed}
+use Rattle.lx_state.specs.Step.{Step, give, fault, or_fault, ◌>>=◌}
+use Rattle.lx_state.specs.Work.{name_fits}
+
+-- where so many are there already, one more may come
+unfoldable pub one_more : ℕ → LimitKind → ℕ → Step (Unit {0})
+one_more line what count m = if nat_lt count (limit_number what) then give tt m else fault line (kind.Limit what) m
+
+-- ---- modules
+
+abbrev pub new_module : ℕ → ℕ → ModuleKind → Module
+new_module object class kind_ = record { object = object; class = class; kind = kind_; attributes = []; comb = []; sync = []; submodules = []; added = None; room = 63 }
+
+unfoldable pub keep_module : ℕ → ℕ → ModuleKind → Step ℕ
+keep_module object class kind_ m = give (length m.modules) (record m { modules = m.modules ++ new_module object class kind_ ∷ [] })
+
+-- a module, without attributes, with nothing added
+unfoldable pub module_made : ℕ → ℕ → ModuleKind → Step ℕ
+module_made line class kind_ m = (do
+  _ ← one_more line limit.Modules (length m.modules)
+  object ← object_made (what.Module (length m.modules)) line None
+  keep_module object class kind_) m
+
+-- the module at a place is changed
+unfoldable pub change_module : ℕ → (Module → Module) → Step (Unit {0})
+change_module at f m = give tt (record m { modules = changed m.modules at f })
+
+-- ---- attributes
+
+abbrev pub some_attribute : List ℕ → Option Module → Option Value
+some_attribute name None = None
+some_attribute name (Some x) = look_up x.attributes name
+
+unfoldable pub attribute : ℕ → ℕ → List ℕ → Step Value
+attribute line at name m = or_fault (some_attribute name (slice_get m.modules at)) line (kind.UnknownName name) m
+
+abbrev pub with_attribute : List ℕ → Value → Module → Module
+with_attribute name v x = record x { attributes = with_name x.attributes name v }
+
+-- ---- submodules
+
+abbrev pub module_of_object : Option Object → Option ℕ
+module_of_object None = None
+module_of_object (Some o) = elim o.what as (λ _. Option ℕ) [ what.Signal s ↦ None | what.Module x ↦ Some x ]
+
+-- the module that a value is
+abbrev pub module_of : Machine → Value → Option ℕ
+module_of m (value.Object at) = module_of_object (slice_get m.objects at)
+module_of m _ = None
+
+abbrev pub with_room : ℕ → Module → Module
+with_room room x = record x { room = room }
+
+abbrev pub above : Option Module → Option (ℕ × Option ℕ)
+above None = None
+above (Some x) = Some (x.room, x.added)
+
+abbrev pub rise_on : (ℕ → Step (Unit {0})) → Option ℕ → Step (Unit {0})
+rise_on on None = give tt
+rise_on on (Some at) = on at
+
+abbrev pub rise_some : (ℕ → Step (Unit {0})) → ℕ → ℕ → Option (ℕ × Option ℕ) → Step (Unit {0})
+rise_some on left at None = give tt
+rise_some on left at (Some x) = if nat_lt left x.0 then (change_module at (with_room left) >>= λ _. rise_on on x.1) else give tt
+
+-- above a chain of modules so many may still stand, the one at the place first
+unfoldable pub rise : ℕ → ℕ → ℕ → Step (Unit {0})
+rise line zero at m = fault line (kind.Limit limit.Depth) m
+rise line (suc left) at m = rise_some (rise line left) left at (above (slice_get m.modules at)) m
+
+abbrev pub is_added : Option Module → Bool
+is_added None = true
+is_added (Some x) = elim x.added as (λ _. Bool) [ None ↦ false | Some above ↦ true ]
+
+abbrev pub room_of : Option Module → ℕ
+room_of None = 0
+room_of (Some x) = x.room
+
+abbrev pub with_submodule : ℕ → Bool → Module → Module
+with_submodule at named x = record x { submodules = x.submodules ++ record { place = at; named = named } ∷ [] }
+
+abbrev pub added_to : ℕ → Module → Module
+added_to to x = record x { added = Some to }
+
+-- a module is added to another, once; no chain of modules is longer than the limit
+unfoldable pub add_module : ℕ → ℕ → Bool → ℕ → Step (Unit {0})
+add_module line to named at m = if is_added (slice_get m.modules at)
+    then fault line kind.WrongKind m
+    else (do
+      _ ← change_module at (added_to to)
+      _ ← rise line (room_of (slice_get m.modules at)) to
+      change_module to (with_submodule at named)) m
+
+abbrev pub add_some : ℕ → ℕ → Bool → Option ℕ → Step (Unit {0})
+add_some line to named None = give tt
+add_some line to named (Some at) = add_module line to named at
+
+-- what an object is, where it is a module
+unfoldable pub add_object : ℕ → ℕ → Bool → ℕ → Step (Unit {0})
+add_object line to named object m = add_some line to named (module_of_object (slice_get m.objects object)) m
+
+unfoldable pub add_objects : ℕ → ℕ → List ℕ → Step (Unit {0})
+add_objects line to [] = give tt
+add_objects line to (object ∷ objects) = do
+  _ ← add_object line to false object
+  add_objects line to objects
+
+-- `self.submodules += v`
+unfoldable pub add_modules : ℕ → ℕ → Value → Step (Unit {0})
+add_modules line to v = do
+  _ ← only leaves.Modules line (v ∷ [])
+  objects ← all_of leaves.Modules line (v ∷ [])
+  add_objects line to objects
+
+-- ---- binding an attribute
+
+abbrev pub adds_by_binding : ModuleKind → Bool
+adds_by_binding bases.Plain = false
+adds_by_binding bases.Lite = true
+adds_by_binding bases.Soc = true
+
+abbrev pub is_adding : Option Module → Bool
+is_adding None = false
+is_adding (Some x) = adds_by_binding x.kind
+
+-- in a `LiteXModule` and in a `SoCCore` a module that is bound is added by its name
+unfoldable pub add_bound : ℕ → ℕ → Value → Step (Unit {0})
+add_bound line at v m = if is_adding (slice_get m.modules at) then add_some line at true (module_of m v) m else give tt m
+
+unfoldable pub bind_attribute : ℕ → ℕ → List ℕ → Value → Step (Unit {0})
+bind_attribute line at name v = do
+  _ ← name_fits line name
+  _ ← bind_name binding.Attribute name v
+  change_module at (with_attribute name v)
+
+-- `self.name = v`
+unfoldable pub set_attribute : ℕ → ℕ → List ℕ → Value → Step (Unit {0})
+set_attribute line at name v = do
+  _ ← add_bound line at v
+  bind_attribute line at name v
+
+-- ---- statements
+
+abbrev pub with_comb : List ℕ → Module → Module
+with_comb made x = record x { comb = x.comb ++ made }
+
+-- `self.comb += v`
+unfoldable pub add_comb : ℕ → ℕ → Value → Step (Unit {0})
+add_comb line at v = do
+  found ← statements_of line 0 (v ∷ [])
+  change_module at (with_comb found.0)
+
+-- a domain that wasn't mentioned before; it has a reset until it is declared without one
+unfoldable pub new_domain : ℕ → List ℕ → Step ℕ
+new_domain line name m = (do
+  _ ← one_more line limit.Domains (length m.domains)
+  λ n. give (length m.domains) (record n { domains = with_name n.domains name (record { declared = false; reset = true }) })) m
+
+abbrev pub place_among : Option ℕ → ℕ → List ℕ → Step ℕ
+place_among (Some place) line name = give place
+place_among None line name = new_domain line name
+
+-- the place of a domain, which is mentioned by this
+unfoldable pub mention : ℕ → List ℕ → Step ℕ
+mention line name m = place_among (place_of m.domains name) line name m
+
+abbrev pub sync_items : ℕ → List ℕ → List SyncItem
+sync_items domain made = map (λ at. record { domain = domain; made = at }) made
+
+abbrev pub with_sync : ℕ → List ℕ → Module → Module
+with_sync domain made x = record x { sync = x.sync ++ sync_items domain made }
+
+-- no statement mentions no domain
+unfoldable pub add_some_in : ℕ → ℕ → List ℕ → List ℕ → Step (Unit {0})
+add_some_in line at name made = do
+  domain ← mention line name
+  _ ← name_fits line name
+  change_module at (with_sync domain made)
+
+abbrev pub add_in : ℕ → ℕ → List ℕ → List ℕ → Step (Unit {0})
+add_in line at name made = if nat_lt 0 (length made) then add_some_in line at name made else name_fits line name
+
+-- `self.sync.name += v`, and `self.sync += v` for the domain `sys`
+unfoldable pub add_sync : ℕ → ℕ → List ℕ → Value → Step (Unit {0})
+add_sync line at name v = do
+  found ← statements_of line 0 (v ∷ [])
+  add_in line at name found.0

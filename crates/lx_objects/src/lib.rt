@@ -1,0 +1,10 @@
+//! Statements and modules as a running description makes them, and what it adds to them.
+#![tactic(auto)]
+
+pub mod cases;
+pub mod exprs;
+pub mod ios;
+pub mod modules;
+pub mod signals;
+pub mod statements;
+pub mod worked;
