@@ -36,7 +36,12 @@ struct Cases {
 }
 
 fn run_last(alloc: Global, read: Cases, out: &mut Text) -> Result<(), NoMemory> {
-    run_case(alloc, read.shared.files.as_slice(), read.case, out)
+    let Cases {
+        shared,
+        case,
+        is_first: _,
+    } = read;
+    run_case(alloc, shared.files.as_slice(), case, out)
 }
 
 fn take_line(
