@@ -1,11 +1,13 @@
 -- That forms say what statements are made of.
 use Rattle.std.specs.Prelude.{ℕ, List, [], ◌∷◌, ◌++◌, ◌≡◌, ◌<◌, length, map, Option, Some, None}
 use Rattle.lx_arena.specs.declared.Id.{Id}
+use Rattle.lx_token.specs.declared.tokens.Token.{Token}
 use Rattle.lx_grammar.specs.declared.grammar.Rule.TheVariants as rule
 use Rattle.lx_grammar.specs.declared.sign.Sign.{Sign}
 use Rattle.lx_grammar.specs.Derives.{Tree, Grown, Parts, end, token, child}
 use Rattle.lx_pytree.specs.declared.tree.PyNodes.{PyNodes}
 use Rattle.lx_pytree.specs.declared.tree.PyPart.{PyPart}
+use Rattle.lx_pytree.specs.declared.tree.PyPart.TheVariants as part
 use Rattle.lx_pytree.specs.Trees.{plants}
 use Rattle.lx_syntax.specs.declared.forms.Branch.{Branch}
 use Rattle.lx_syntax.specs.declared.forms.Place.{Place}
@@ -14,9 +16,9 @@ use Rattle.lx_syntax.specs.declared.stmts.Arm.{Arm}
 use Rattle.lx_syntax.specs.declared.stmts.Arm.TheVariants as arm
 use Rattle.lx_syntax.specs.Ast as ast
 use Rattle.lx_syntax.specs.Ast.{Branches, Stmt, Stmts}
-use Rattle.lx_syntax.specs.Convert.{bound, branches, expr, line_of_parts, names_of, otherwise, place_of, stmt, suite, text_of}
+use Rattle.lx_syntax.specs.Convert.{bound, branches, expr, line_of_parts, loop_, names_of, otherwise, place_of, stmt, suite, text_of}
 use Rattle.lx_syntax.specs.Forms.{Exprs_at, Ids, Lower, block_at, branches_ids, place_at, place_ids, stmt_form, stmt_ids}
-use Rattle.lx_syntax.specs.Says.{PartsLower, exprs_of, stmts_of}
+use Rattle.lx_syntax.specs.Says.{PartsLower, StmtSaysOf, exprs_of, stmts_of}
 
 abbrev pub conditional : List ℕ → Parts → Stmt
 conditional src ps = ast.If (line_of_parts ps) (branches src ps) (otherwise src ps)
@@ -54,6 +56,10 @@ looped src t names source block line = ast.For line (map (text_of src) (names_of
 pub record IsLoop (src : List ℕ) (t : ℕ → Tree) (names source block : ℕ) (form : StmtForm) : Type 0 where
   pub says : (line : ℕ) → stmt_form src (exprs_of src t) (stmts_of src t) line form ≡ looped src t names source block line
   pub lower : (n : ℕ) → source < n → block < n → Lower n (stmt_ids form)
+
+-- a form that says what a loop's parts say: a word, its names, `in`, and these
+abbrev pub LoopSaysOf : List ℕ → (ℕ → Tree) → ℕ → Token → Id PyNodes → Token → List PyPart → StmtForm → Type 0
+LoopSaysOf src t n x names y ps form = StmtSaysOf src t n (part.Token x ∷ part.Node names ∷ part.Token y ∷ ps) loop_ form
 
 -- a loop by the parts behind its source
 unfoldable pub over : List ℕ → Tree → Tree → Parts → ℕ → Stmt

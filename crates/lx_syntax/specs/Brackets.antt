@@ -10,6 +10,7 @@ use Rattle.lx_syntax.specs.Ast as ast
 use Rattle.lx_syntax.specs.Ast.{Expr}
 use Rattle.lx_syntax.specs.Convert.{comprehension, expr, exprs, grouped, names_of, pairs_of, sign_of, spelled, spread, text_of}
 use Rattle.lx_syntax.specs.Forming.{branchings_of}
+use Rattle.lx_syntax.specs.Says.{IsExpr}
 use Rattle.lx_syntax.specs.Forms.{Exprs_at, Ids, Lower, expr_form, expr_ids, items_at}
 
 -- a form that says this, and has no parts
@@ -40,3 +41,16 @@ spelled_out src t x j k ps = spelled (sign_of src x) (comprehended src t j k ps 
 pub record AreBranchings (lines : ℕ → ℕ) (n begin : ℕ) (ids : Ids) (line : ℕ) (rest : Ids) (made : List Branching) : Type 0 where
   pub says : made ++ branchings_of lines line rest ≡ branchings_of lines begin ids
   pub left : Lower n rest
+
+-- forms that say these
+abbrev pub IsGrouped : List ℕ → (ℕ → Tree) → ℕ → Token → ℕ → ExprForm → Type 0
+IsGrouped src t n x k form = IsExpr src t n x.line (bracketed src t x k) form
+
+abbrev pub IsComprehension : List ℕ → (ℕ → Tree) → ℕ → ℕ → ℕ → List PyPart → ExprForm → Type 0
+IsComprehension src t n item names ps form = (line : ℕ) → IsExpr src t n line (comprehended src t item names ps line) form
+
+abbrev pub IsDictionary : ℕ → ℕ → ℕ → List PyPart → ExprForm → Type 0
+IsDictionary n key value ps form = (src : List ℕ) (t : ℕ → Tree) (line : ℕ) → IsExpr src t n line (paired src t key value ps line) form
+
+abbrev pub IsSpelled : List ℕ → (ℕ → Tree) → ℕ → Token → ℕ → ℕ → List PyPart → ExprForm → Type 0
+IsSpelled src t n x j k ps form = IsExpr src t n x.line (spelled_out src t x j k ps) form

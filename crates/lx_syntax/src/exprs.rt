@@ -6,8 +6,8 @@ ghost use Rattle.lx_pytree.specs.Trees.{plants, tree_at};
 ghost use Rattle.lx_syntax.specs.Convert.{atom, chosen, empty, leaf, line_of, line_of_parts, sign_of};
 ghost use Rattle.lx_syntax.specs.Forming.{branchings_of};
 ghost use Rattle.lx_syntax.specs.Forms.{Lower};
-ghost use Rattle.lx_syntax.specs.Says.{HaveLines, Hung, IsExpr, IsExprAt, PartsLower, SaysOf};
-ghost use Rattle.lx_syntax.specs.Brackets.{IsBare, IsSourced, bracketed, comprehended, paired, spelled_out};
+ghost use Rattle.lx_syntax.specs.Says.{HaveLines, IsExprAt, PartsLower, SaysOf};
+ghost use Rattle.lx_syntax.specs.Brackets.{IsBare, IsComprehension, IsDictionary, IsGrouped, IsSourced, IsSpelled};
 
 use crate::children::{items, names_of};
 use crate::flat::flat;
@@ -134,7 +134,7 @@ fn grouped(
 ) -> Result<ExprForm, NoMemory>
     requires inside { id.place < length tree.now.nodes }
     requires low { inner.place < id.place }
-    ensures { IfOk result (λ form. IsExpr src.now (tree_at tree.now.nodes) id.place token.now.line (bracketed src.now (tree_at tree.now.nodes) token.now inner.place) form) }
+    ensures { IfOk result (λ form. IsGrouped src.now (tree_at tree.now.nodes) id.place token.now inner.place form) }
 {
     match sign_of(src, token) {
         Sign::OpenRound => Ok(ExprForm::Same(inner)),
@@ -181,7 +181,7 @@ fn comprehension(
     requires item { item.place < id.place }
     requires names { names.place < id.place }
     requires low { PartsLower id.place parts.now }
-    ensures { IfOk result (λ form. (line : ℕ) → IsExpr src.now (tree_at tree.now.nodes) id.place line (comprehended src.now (tree_at tree.now.nodes) item.place names.place parts.now line) form) }
+    ensures { IfOk result (λ form. IsComprehension src.now (tree_at tree.now.nodes) id.place item.place names.place parts.now form) }
 {
     let names = names_of(alloc, src, tree, names)?;
     let ids = nodes_in(alloc, parts)?;
@@ -200,7 +200,7 @@ fn dictionary(
     requires key { key.place < id.place }
     requires value { value.place < id.place }
     requires low { PartsLower id.place parts.now }
-    ensures { IfOk result (λ form. (src : List ℕ) (t : Hung) (line : ℕ) → IsExpr src t id.place line (paired src t key.place value.place parts.now line) form) }
+    ensures { IfOk result (λ form. IsDictionary id.place key.place value.place parts.now form) }
 {
     let ids = nodes_in(alloc, parts)?;
     let pairs = couples_from(alloc, key, value, ids.as_slice())?;
@@ -223,7 +223,7 @@ fn spelled(
     requires first { first.place < id.place }
     requires second { second.place < id.place }
     requires low { PartsLower id.place parts.now }
-    ensures { IfOk result (λ form. IsExpr src.now (tree_at tree.now.nodes) id.place token.now.line (spelled_out src.now (tree_at tree.now.nodes) token.now first.place second.place parts.now) form) }
+    ensures { IfOk result (λ form. IsSpelled src.now (tree_at tree.now.nodes) id.place token.now first.place second.place parts.now form) }
 {
     match sign_of(src, token) {
         Sign::OpenSquare => comprehension(alloc, src, tree, id, first, second, parts),

@@ -5,7 +5,7 @@ ghost use Rattle.std.specs.Prelude.{ℕ, ◌∷◌, ◌<◌, IfOk, OnOk, List, l
 ghost use Rattle.lx_pytree.specs.Trees.{tree_at};
 ghost use Rattle.lx_syntax.specs.Convert.{loop_, simple};
 ghost use Rattle.lx_syntax.specs.Says.{IsStmtAt, PartsLower, StmtSaysOf};
-ghost use Rattle.lx_syntax.specs.Blocks.{IsArm, IsBound, IsBranch, IsLoop, IsOver, IsPlaceAt, IsPlaceIn, conditional};
+ghost use Rattle.lx_syntax.specs.Blocks.{IsArm, IsBound, IsBranch, IsLoop, IsOver, IsPlaceAt, IsPlaceIn, LoopSaysOf, conditional};
 
 use crate::children::{lines, names_of};
 use crate::forms::{Branch, Place, StmtForm};
@@ -238,7 +238,7 @@ fn for_in(
 ) -> Result<StmtForm, NoMemory>
     requires inside { id.place < length tree.now.nodes }
     requires low { PartsLower id.place (part.Node names ∷ part.Token y ∷ parts.now) }
-    ensures { IfOk result (λ form. StmtSaysOf src.now (tree_at tree.now.nodes) id.place (part.Token x ∷ part.Node names ∷ part.Token y ∷ parts.now) loop_ form) }
+    ensures { IfOk result (λ form. LoopSaysOf src.now (tree_at tree.now.nodes) id.place x names y parts.now form) }
 {
     match head_of(parts) {
         Head::Done => Ok(StmtForm::NoStmt),

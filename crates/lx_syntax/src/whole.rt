@@ -145,6 +145,13 @@ pub fn syntax_of(alloc: Global, src: &[u8], tree: &Tree) -> Result<Syntax, NoMem
 }
 
 impl Syntax {
+    /// The number of nodes.
+    pub fn node_count(&self) -> usize
+        ensures { result ≡ length self.now.nodes }
+    {
+        self.program.nodes.len()
+    }
+
     /// The number of classes.
     pub fn class_count(&self) -> usize
         ensures { result ≡ length self.now.classes }
