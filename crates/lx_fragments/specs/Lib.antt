@@ -1,0 +1,4 @@
+pub mod Domains
+pub mod Fragments
+pub mod Laying
+pub mod Worked
