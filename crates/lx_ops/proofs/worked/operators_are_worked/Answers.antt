@@ -1,0 +1,98 @@
+use Rattle.std.proofs.Common.{refl}
+use Rattle.lx_value.specs.Numbers.{python_value}
+use Rattle.lx_arena.specs.Folds.{fold_at}
+use Rattle.lx_fhdl.specs.Designs.{circuit_of}
+use Rattle.lx_fhdl.specs.Trees.{term_at}
+use Rattle.lx_fhdl.specs.Stmts.{target_at}
+use Rattle.lx_shaped.specs.Making.{make_expr, make_target}
+use Rattle.lx_state.specs.Lists.{array_of, deeper, int_of, items_made, items_of, keep_items, list_made, list_of, text_made, text_of, tuple_made}
+use Rattle.lx_objects.specs.Exprs.{expr_made, put_expr, put_target}
+use Rattle.lx_objects.specs.Statements.{assign_made, keep_made, node_sum, only}
+use Rattle.lx_state.specs.Work.{spend, spend_nodes, within}
+use Rattle.lx_objects.specs.Modules.{add_modules, attribute}
+use Rattle.lx_ops.specs.Attributes.{attribute_of, module_attribute}
+use Rattle.lx_ops.specs.Places.{add_at, bind_at, holder_of}
+use Rattle.lx_ops.specs.Binary.{binary, copies, list_repeated, lists_joined, node_made, number_made, only_where, texts_joined, tuples_joined}
+use Rattle.lx_ops.specs.Compare.{among, compare, contained, equal, in_order, negated, prefixed, truth, truth_of_compared, unequal}
+use Rattle.lx_ops.specs.Exprs.{binary_made, constant, expr_of, exprs_of, least, unary_made}
+use Rattle.lx_ops.specs.Items.{bit_of, bits_of, bound, byte_of, item_of, items_spent, listed, picked, slice_of}
+use Rattle.lx_ops.specs.Targets.{aim_added, aim_after, aim_made, aim_within, aims_after, aims_of, assign, target_of}
+use Rattle.lx_ops.proofs.worked.operators_are_worked.Goals as goal
+
+pub returns-clause-computed : goal.returns-clause-computed
+unfolding binary among compare contained equal in_order unequal negated truth truth_of_compared prefixed number_made node_made only_where texts_joined lists_joined tuples_joined copies list_repeated constant put_expr expr_made expr_of exprs_of least unary_made binary_made put_target bit_of bits_of bound byte_of item_of items_spent listed picked slice_of aim_added aim_after aim_made aim_within aims_after aims_of assign target_of within spend spend_nodes array_of int_of items_of list_of text_of text_made list_made tuple_made items_made keep_items deeper node_sum keep_made assign_made make_expr make_target python_value circuit_of fold_at term_at target_at
+returns-clause-computed c = record {
+  remainder = refl;
+  no_divisor = refl;
+  joined_texts = refl;
+  joined_units = refl;
+  text_and_list = refl;
+  repeated = refl;
+  never_repeated = refl;
+  tuple_repeated = refl;
+  too_often = refl;
+  inverted = refl;
+  last_byte = refl;
+  last_item = refl;
+  past_the_items = refl;
+  before_the_items = refl;
+}
+
+pub returns-clause-compared : goal.returns-clause-compared
+unfolding binary among compare contained equal in_order unequal negated truth truth_of_compared prefixed number_made node_made only_where texts_joined lists_joined tuples_joined copies list_repeated constant put_expr expr_made expr_of exprs_of least unary_made binary_made put_target bit_of bits_of bound byte_of item_of items_spent listed picked slice_of aim_added aim_after aim_made aim_within aims_after aims_of assign target_of within spend spend_nodes array_of int_of items_of list_of text_of text_made list_made tuple_made items_made keep_items deeper node_sum keep_made assign_made make_expr make_target python_value circuit_of fold_at term_at target_at
+returns-clause-compared c = record {
+  two_kinds = refl;
+  two_kinds_differ = refl;
+  lists = refl;
+  none_below = refl;
+  first_of_list = refl;
+  behind_an_expression = refl;
+  in_nothing = refl;
+  empty_list = refl;
+  expression_as_condition = refl;
+}
+
+pub returns-clause-expressed : goal.returns-clause-expressed
+unfolding binary among compare contained equal in_order unequal negated truth truth_of_compared prefixed number_made node_made only_where texts_joined lists_joined tuples_joined copies list_repeated constant put_expr expr_made expr_of exprs_of least unary_made binary_made put_target bit_of bits_of bound byte_of item_of items_spent listed picked slice_of aim_added aim_after aim_made aim_within aims_after aims_of assign target_of within spend spend_nodes array_of int_of items_of list_of text_of text_made list_made tuple_made items_made keep_items deeper node_sum keep_made assign_made make_expr make_target python_value circuit_of fold_at term_at target_at
+returns-clause-expressed c = record {
+  fewest_bits = refl;
+  difference = refl;
+  one_node = refl;
+  never_divided = refl;
+  signed_amount = refl;
+  too_wide = refl;
+  compared = refl;
+  equal_to_none = refl;
+  plus = refl;
+  last_bit = refl;
+  clamped_slice = refl;
+  empty_slice = refl;
+  picked = refl;
+  picked_nodes = refl;
+}
+
+pub returns-clause-assigned : goal.returns-clause-assigned
+unfolding binary among compare contained equal in_order unequal negated truth truth_of_compared prefixed number_made node_made only_where texts_joined lists_joined tuples_joined copies list_repeated constant put_expr expr_made expr_of exprs_of least unary_made binary_made put_target bit_of bits_of bound byte_of item_of items_spent listed picked slice_of aim_added aim_after aim_made aim_within aims_after aims_of assign target_of within spend spend_nodes array_of int_of items_of list_of text_of text_made list_made tuple_made items_made keep_items deeper node_sum keep_made assign_made make_expr make_target python_value circuit_of fold_at term_at target_at
+returns-clause-assigned c = record {
+  cat_aimed = refl;
+  part_aimed = refl;
+  assigned_nodes = refl;
+  to_an_integer = refl;
+  a_text = refl;
+}
+
+pub returns-clause-attributes : goal.returns-clause-attributes
+unfolding attribute attribute_of module_attribute add_at add_modules bind_at holder_of only
+returns-clause-attributes c = record {
+  bound_method = refl;
+  no_method = refl;
+  branch = refl;
+  second_else = refl;
+  own = refl;
+  not_built = refl;
+  fragment_as_value = refl;
+  fragment_in_place = refl;
+  domain_is_bound = refl;
+  fragment_is_bound = refl;
+  signal_is_added = refl;
+}

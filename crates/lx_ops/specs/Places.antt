@@ -1,0 +1,110 @@
+-- What attributes are bound and added to.
+use Rattle.std.specs.Prelude.{ℕ, Bool, true, false, if◌then◌else◌, List, [], ◌∷◌, codes, Option, Some, None, is_some}
+use Rattle.lx_text.specs.declared.faults.Kind.TheVariants as kind
+use Rattle.lx_state.specs.declared.machine.Machine.{Machine}
+use Rattle.lx_state.specs.declared.values.Value.{Value}
+use Rattle.lx_state.specs.Lists.{all_leaves}
+use Rattle.lx_state.specs.Step.{Step, give, fault, ◌>>=◌}
+use Rattle.lx_objects.specs.Modules.{add_comb, add_module, add_modules, add_sync, bind_attribute, module_of, set_attribute}
+use Rattle.lx_objects.specs.Statements.{is_nothing}
+use Rattle.lx_ops.specs.Attributes.{attribute_of, fragment_named}
+use Rattle.lx_ops.specs.declared.attributes.Fragment.{Fragment}
+use Rattle.lx_ops.specs.declared.attributes.Fragment.TheVariants as fragment
+use Rattle.lx_ops.specs.declared.places.Holder.{Holder}
+use Rattle.lx_ops.specs.declared.places.Holder.TheVariants as holder
+use Rattle.lx_ops.specs.declared.places.Part.{Part}
+
+abbrev pub part_named : Option ℕ → Option Fragment → Option Part
+part_named (Some at) (Some f) = Some (record { module_ = at; fragment = f })
+part_named _ _ = None
+
+-- the fragment that `v.name` is
+abbrev pub part_of : Machine → Value → List ℕ → Option Part
+part_of m v name = part_named (module_of m v) (fragment_named name)
+
+abbrev pub held : ℕ → Value → List ℕ → Option Part → Step Holder
+held line v name (Some p) m = give (holder.Part p) m
+held line v name None m = (attribute_of line v name >>= λ w. give (holder.Plain w)) m
+
+-- `v.name` where a fragment may stand
+unfoldable pub holder_of : ℕ → Value → List ℕ → Step Holder
+holder_of line v name m = held line v name (part_of m v name) m
+
+abbrev pub takes_names : Fragment → Bool
+takes_names fragment.Comb = false
+takes_names fragment.Sync = false
+takes_names _ = true
+
+abbrev pub named_holder : ℕ → Holder → Step Holder
+named_holder line (holder.Plain w) m = give (holder.Plain w) m
+named_holder line (holder.Part p) m = if takes_names p.fragment then give (holder.Part p) m else fault line kind.WrongKind m
+
+-- `v.name` as the first argument of `setattr`
+unfoldable pub setattr_holder : ℕ → Value → List ℕ → Step Holder
+setattr_holder line v name = do
+  h ← holder_of line v name
+  named_holder line h
+
+-- ---- binding
+
+abbrev pub bind_module : ℕ → List ℕ → Value → Option ℕ → Step (Unit {0})
+bind_module line name v None m = fault line kind.WrongKind m
+bind_module line name v (Some at) m = set_attribute line at name v m
+
+abbrev pub bind_submodule : ℕ → ℕ → List ℕ → Value → Option ℕ → Step (Unit {0})
+bind_submodule line to name v None m = fault line kind.WrongKind m
+bind_submodule line to name v (Some at) m = (add_module line to true at >>= λ _. bind_attribute line to name v) m
+
+-- of what is built only modules can be bound so
+abbrev pub bind_under : ℕ → ℕ → List ℕ → Value → Fragment → Step (Unit {0})
+bind_under line to name v fragment.Submodules m = bind_submodule line to name v (module_of m v) m
+bind_under line to name v _ m = fault line kind.WrongKind m
+
+abbrev pub bind_held : ℕ → Holder → List ℕ → Value → Step (Unit {0})
+bind_held line (holder.Plain o) name v m = bind_module line name v (module_of m o) m
+bind_held line (holder.Part p) name v m = bind_under line p.module_ name v p.fragment m
+
+-- `h.name = v`; no fragment is bound
+unfoldable pub bind_at : ℕ → Holder → List ℕ → Value → Step (Unit {0})
+bind_at line h name v m = if is_some (fragment_named name) then fault line kind.WrongKind m else bind_held line h name v m
+
+-- ---- adding
+
+abbrev pub is_sync : Fragment → Bool
+is_sync fragment.Sync = true
+is_sync _ = false
+
+-- whether `h.name += ..` adds to a fragment
+abbrev pub adds : Machine → Holder → List ℕ → Bool
+adds m (holder.Plain o) name = is_some (part_of m o name)
+adds m (holder.Part p) name = is_sync p.fragment
+
+-- of what is built nothing can be added so
+unfoldable pub add_nothing : ℕ → Value → Step (Unit {0})
+add_nothing line v m = if is_nothing (all_leaves m (v ∷ [])) then give tt m else fault line kind.WrongKind m
+
+abbrev pub add_fragment : ℕ → ℕ → Value → Fragment → Step (Unit {0})
+add_fragment line at v fragment.Comb m = add_comb line at v m
+add_fragment line at v fragment.Sync m = add_sync line at (codes "sys") v m
+add_fragment line at v fragment.Submodules m = add_modules line at v m
+add_fragment line at v fragment.Specials m = add_nothing line v m
+add_fragment line at v fragment.ClockDomains m = add_nothing line v m
+
+abbrev pub add_part : ℕ → Value → Option Part → Step (Unit {0})
+add_part line v None m = fault line kind.WrongKind m
+add_part line v (Some p) m = add_fragment line p.module_ v p.fragment m
+
+abbrev pub add_under : ℕ → List ℕ → Value → Part → Step (Unit {0})
+add_under line name v p m = if is_sync p.fragment then add_sync line p.module_ name v m else fault line kind.WrongKind m
+
+-- `h.name += v` of a fragment; a domain's name stands behind `sync`
+unfoldable pub add_at : ℕ → Holder → List ℕ → Value → Step (Unit {0})
+add_at line (holder.Plain o) name v m = add_part line v (part_of m o name) m
+add_at line (holder.Part p) name v m = add_under line name v p m
+
+-- ---- reading
+
+-- `h.name` as a value
+unfoldable pub read_at : ℕ → Holder → List ℕ → Step Value
+read_at line (holder.Plain o) name m = attribute_of line o name m
+read_at line (holder.Part p) name m = fault line kind.WrongKind m

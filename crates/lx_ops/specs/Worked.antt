@@ -1,0 +1,175 @@
+-- Operators on a small machine, worked by hand.
+use Rattle.std.specs.Prelude.{◌≡◌, ℕ, pos, negsuc, true, List, [], ◌∷◌, codes, Option, Some, None, Result, Ok, Err, slice_get}
+use Rattle.lx_text.specs.declared.faults.Fault.{Fault}
+use Rattle.lx_text.specs.declared.faults.Kind.{Kind}
+use Rattle.lx_text.specs.declared.faults.Kind.TheVariants as kind
+use Rattle.lx_text.specs.declared.faults.LimitKind.TheVariants as limit
+use Rattle.lx_tables.specs.declared.operators.Op.TheVariants as node
+use Rattle.lx_value.specs.declared.numbers.PyOp.TheVariants as op
+use Rattle.lx_fhdl.specs.Drafts.{started}
+use Rattle.lx_fhdl.specs.Instance.{signal_of, the_expr, the_signal, the_target}
+use Rattle.lx_fhdl.specs.declared.exprs.Expr.{Expr}
+use Rattle.lx_fhdl.specs.declared.exprs.Expr.TheVariants as expr
+use Rattle.lx_fhdl.specs.declared.stmts.Target.TheVariants as target
+use Rattle.lx_state.specs.declared.machine.Binding.TheVariants as binding
+use Rattle.lx_state.specs.declared.machine.Items.{Items}
+use Rattle.lx_state.specs.declared.machine.Leaves.TheVariants as leaves
+use Rattle.lx_state.specs.declared.machine.Machine.{Machine}
+use Rattle.lx_state.specs.declared.machine.Form.{Form}
+use Rattle.lx_state.specs.declared.machine.Form.TheVariants as form
+use Rattle.lx_state.specs.declared.machine.Made.{Made}
+use Rattle.lx_state.specs.declared.machine.Module.{Module}
+use Rattle.lx_state.specs.declared.machine.ModuleKind.{ModuleKind}
+use Rattle.lx_state.specs.declared.machine.ModuleKind.TheVariants as bases
+use Rattle.lx_state.specs.declared.machine.What.TheVariants as what
+use Rattle.lx_state.specs.declared.values.Method.TheVariants as method
+use Rattle.lx_state.specs.declared.values.Value.{Value}
+use Rattle.lx_state.specs.declared.values.Value.TheVariants as value
+use Rattle.lx_state.specs.Step.{Outcome}
+use Rattle.lx_state.specs.Worked.{seen, spent, start}
+use Rattle.lx_ops.specs.Attributes.{attribute_of}
+use Rattle.lx_ops.specs.Binary.{binary}
+use Rattle.lx_ops.specs.Compare.{compare, negated, prefixed}
+use Rattle.lx_ops.specs.Items.{item_of, slice_of}
+use Rattle.lx_ops.specs.Places.{add_at, bind_at, holder_of}
+use Rattle.lx_ops.specs.Targets.{assign, target_of}
+use Rattle.lx_ops.specs.declared.attributes.Fragment.{Fragment}
+use Rattle.lx_ops.specs.declared.attributes.Fragment.TheVariants as fragment
+use Rattle.lx_ops.specs.declared.places.Holder.{Holder}
+use Rattle.lx_ops.specs.declared.places.Holder.TheVariants as holder
+use Rattle.lx_ops.specs.declared.comparisons.Comparison.TheVariants as by_
+use Rattle.lx_ops.specs.declared.comparisons.Sign.TheVariants as sign_
+
+abbrev pub items : List Value → Items
+items values = record { values = values; depth = 1; leaves = leaves.Others; size = 0; named = binding.Nowhere }
+
+-- the signals a of 4 bits and w of 64 bits, and `Cat(a, a[1:3])`
+abbrev pub exprs : List Expr
+exprs = expr.Sig (the_signal 0) ∷ expr.Sig (the_signal 1) ∷ expr.Slice (the_expr 0) 1 3 ∷ expr.Cat (the_expr 0 ∷ the_expr 2 ∷ []) ∷ []
+
+-- the texts "ab" and "c", the lists `[]`, `[7, a]` and `[7, a, w]`
+abbrev pub some : Machine
+some = record start {
+  shaped = record (started (signal_of (codes "a") 4 0 ∷ signal_of (codes "w") 64 0 ∷ []) []) { exprs = exprs };
+  texts = codes "ab" ∷ codes "c" ∷ [];
+  lists = items [] ∷ items (value.Int (pos 7) ∷ value.Expr (the_expr 0) ∷ []) ∷ items (value.Int (pos 7) ∷ value.Expr (the_expr 0) ∷ value.Expr (the_expr 1) ∷ []) ∷ [];
+}
+
+abbrev pub a : Value
+a = value.Expr (the_expr 0)
+
+abbrev pub w : Value
+w = value.Expr (the_expr 1)
+
+abbrev pub cat : Value
+cat = value.Expr (the_expr 3)
+
+-- what is given, or the fault
+abbrev pub value_of : {A : Type 0} → Outcome A → Result A Fault
+value_of (Ok r) = Ok r.0
+value_of (Err f) = Err f
+
+abbrev pub at_nine : {A : Type 0} → Kind → Result A Fault
+at_nine k = Err (record { line = 9; kind = k })
+
+abbrev pub expr_at : ℕ → Machine → Option Expr
+expr_at k m = slice_get m.shaped.exprs k
+
+abbrev pub nodes : Machine → ℕ
+nodes m = m.nodes
+
+abbrev pub text_at : ℕ → Machine → Option (List ℕ)
+text_at k m = slice_get m.texts k
+
+abbrev pub values_at : ℕ → Machine → List (List Value)
+values_at k m = elim (slice_get m.lists k) as (λ _. List (List Value)) [ None ↦ [] | Some i ↦ i.values ∷ [] ]
+
+abbrev pub int : ℕ → Value
+int n = value.Int (pos n)
+
+abbrev pub a_module : ModuleKind → Module
+a_module kind_ = record { object = 0; class = 0; kind = kind_; attributes = (codes "x", value.Int (pos 5)) ∷ []; comb = []; sync = []; submodules = []; added = None; room = 63 }
+
+abbrev pub a_statement : Form → Made
+a_statement f = record { form = f; line = 1; size = 1; depth = 1 }
+
+-- the system's top with an attribute x, and an `If` and its `Else`
+abbrev pub top : Machine
+top = record some {
+  objects = record { what = what.Module 0; line = 1; maker = None; given = None; by_attribute = None; by_local = None } ∷ [];
+  modules = a_module bases.Soc ∷ [];
+  made = a_statement (form.If None (the_expr 0) []) ∷ a_statement (form.Else 0 []) ∷ [];
+}
+
+abbrev pub under : Fragment → Holder
+under f = holder.Part (record { module_ = 0; fragment = f })
+
+-- Of values of Python.
+pub record AreComputed : Type 0 where
+  pub remainder : value_of (binary 9 op.Mod (value.Int (negsuc 6)) (int 4) some) ≡ Ok (int 1)
+  pub no_divisor : value_of (binary 9 op.FloorDiv (int 1) (int 0) some) ≡ at_nine kind.DivZero
+  pub joined_texts : seen (text_at 2) (binary 9 op.Add (value.Text 0) (value.Text 1) some) ≡ Ok (Some (codes "abc"))
+  pub joined_units : seen spent (binary 9 op.Add (value.List 1) (value.List 2) some) ≡ Ok 5
+  pub text_and_list : value_of (binary 9 op.Add (value.Text 0) (value.List 1) some) ≡ at_nine kind.WrongKind
+  pub repeated : seen (values_at 3) (binary 9 op.Mul (int 2) (value.List 1) some) ≡ Ok ((int 7 ∷ a ∷ int 7 ∷ a ∷ []) ∷ [])
+  pub never_repeated : seen (values_at 3) (binary 9 op.Mul (value.List 1) (value.Int (negsuc 0)) some) ≡ Ok ([] ∷ [])
+  pub tuple_repeated : value_of (binary 9 op.Mul (value.Tuple 1) (int 2) some) ≡ at_nine kind.WrongKind
+  pub too_often : value_of (binary 9 op.Mul (value.List 1) (int 500001) some) ≡ at_nine (kind.Limit limit.Work)
+  pub inverted : value_of (prefixed 9 sign_.Tilde (int 5) some) ≡ Ok (value.Int (negsuc 5))
+  pub last_byte : seen (text_at 2) (item_of 9 (value.Text 0) (value.Int (negsuc 0)) some) ≡ Ok (Some (codes "b"))
+  pub last_item : value_of (item_of 9 (value.Tuple 2) (value.Int (negsuc 0)) some) ≡ Ok w
+  pub past_the_items : value_of (item_of 9 (value.List 1) (int 2) some) ≡ at_nine kind.BadSlice
+  pub before_the_items : value_of (item_of 9 (value.List 1) (value.Int (negsuc 2)) some) ≡ at_nine kind.BadSlice
+
+-- Of comparisons and truth.
+pub record AreCompared : Type 0 where
+  pub two_kinds : value_of (compare 9 by_.Equal value.Nothing (int 0) some) ≡ Ok (int 0)
+  pub two_kinds_differ : value_of (compare 9 by_.Unequal (value.Text 0) (int 0) some) ≡ Ok (int 1)
+  pub lists : value_of (compare 9 by_.Equal (value.List 1) (value.List 1) some) ≡ at_nine kind.WrongKind
+  pub none_below : value_of (compare 9 by_.Less value.Nothing (int 0) some) ≡ at_nine kind.WrongKind
+  -- what stands behind the first equal item isn't met
+  pub first_of_list : value_of (compare 9 by_.In (int 7) (value.List 1) some) ≡ Ok (int 1)
+  pub behind_an_expression : value_of (compare 9 by_.In (int 8) (value.List 1) some) ≡ at_nine kind.WrongKind
+  pub in_nothing : value_of (compare 9 by_.In a (value.Tuple 0) some) ≡ Ok (int 0)
+  pub empty_list : value_of (negated 9 (value.List 0) some) ≡ Ok (int 1)
+  pub expression_as_condition : value_of (negated 9 a some) ≡ at_nine kind.WrongKind
+
+-- Of expressions.
+pub record AreExpressed : Type 0 where
+  -- an integer has its fewest bits, and counts no node
+  pub fewest_bits : seen (expr_at 4) (binary 9 op.Sub a (value.Int (negsuc 4)) some) ≡ Ok (Some (expr.Const (negsuc 4) 4 true))
+  pub difference : seen (expr_at 5) (binary 9 op.Sub a (value.Int (negsuc 4)) some) ≡ Ok (Some (expr.Binary node.Sub (the_expr 0) (the_expr 4)))
+  pub one_node : seen nodes (binary 9 op.Sub a (value.Int (negsuc 4)) some) ≡ Ok 1
+  pub never_divided : value_of (binary 9 op.FloorDiv a (int 2) some) ≡ at_nine kind.WrongKind
+  pub signed_amount : value_of (binary 9 op.Shl a (value.Int (negsuc 0)) some) ≡ at_nine kind.SignedShift
+  pub too_wide : value_of (binary 9 op.Mul w w some) ≡ at_nine (kind.TooWide 128)
+  pub compared : seen (expr_at 4) (compare 9 by_.GreaterEqual a w some) ≡ Ok (Some (expr.Binary node.Ge (the_expr 0) (the_expr 1)))
+  pub equal_to_none : value_of (compare 9 by_.Equal a value.Nothing some) ≡ at_nine kind.WrongKind
+  pub plus : value_of (prefixed 9 sign_.Plus a some) ≡ at_nine kind.WrongKind
+  pub last_bit : seen (expr_at 4) (item_of 9 a (value.Int (negsuc 0)) some) ≡ Ok (Some (expr.Slice (the_expr 0) 3 4))
+  pub clamped_slice : seen (expr_at 4) (slice_of 9 a (Some (value.Int (negsuc 2))) (Some (int 100)) some) ≡ Ok (Some (expr.Slice (the_expr 0) 1 4))
+  pub empty_slice : value_of (slice_of 9 a (Some (int 4)) None some) ≡ at_nine kind.BadSlice
+  pub picked : seen (expr_at 5) (item_of 9 (value.Array 1) w some) ≡ Ok (Some (expr.Pick (the_expr 4 ∷ the_expr 0 ∷ []) (the_expr 1)))
+  pub picked_nodes : seen nodes (item_of 9 (value.Array 1) w some) ≡ Ok 3
+
+-- Of targets.
+pub record AreAssigned : Type 0 where
+  pub cat_aimed : value_of (target_of 9 cat some) ≡ Ok (record { target = the_target 2; inside = 2; depth = 1 })
+  pub part_aimed : seen (λ m. slice_get m.shaped.targets 1) (target_of 9 cat some) ≡ Ok (Some (target.Part (the_signal 0) 1 2))
+  pub assigned_nodes : seen nodes (assign 9 cat (int 5) some) ≡ Ok 3
+  pub to_an_integer : value_of (assign 9 (int 5) a some) ≡ at_nine kind.WrongKind
+  pub a_text : value_of (assign 9 a (value.Text 0) some) ≡ at_nine kind.WrongKind
+
+-- Of attributes and places.
+pub record HaveAttributes : Type 0 where
+  pub bound_method : value_of (attribute_of 9 a (codes "eq") top) ≡ Ok (value.Method (method.Eq (the_expr 0)))
+  pub no_method : value_of (attribute_of 9 (int 5) (codes "eq") top) ≡ at_nine (kind.UnknownName (codes "eq"))
+  pub branch : value_of (attribute_of 9 (value.Made 0) (codes "Else") top) ≡ Ok (value.Method (method.Else 0))
+  pub second_else : value_of (attribute_of 9 (value.Made 1) (codes "Else") top) ≡ at_nine kind.WrongKind
+  pub own : value_of (attribute_of 9 (value.Object 0) (codes "x") top) ≡ Ok (int 5)
+  pub not_built : value_of (attribute_of 9 (value.Object 0) (codes "bus") top) ≡ at_nine kind.NotYetBuilt
+  pub fragment_as_value : value_of (attribute_of 9 (value.Object 0) (codes "comb") top) ≡ at_nine kind.WrongKind
+  pub fragment_in_place : value_of (holder_of 9 (value.Object 0) (codes "sync") top) ≡ Ok (under fragment.Sync)
+  pub domain_is_bound : value_of (bind_at 9 (under fragment.Sync) (codes "pix") a top) ≡ at_nine kind.WrongKind
+  pub fragment_is_bound : value_of (bind_at 9 (holder.Plain (value.Object 0)) (codes "comb") a top) ≡ at_nine kind.WrongKind
+  pub signal_is_added : value_of (add_at 9 (holder.Plain (value.Object 0)) (codes "submodules") a top) ≡ at_nine kind.WrongKind

@@ -1,0 +1,12 @@
+//! Operators worked by hand.
+
+ghost use Rattle.lx_ops.specs.Worked.{AreAssigned, AreCompared, AreComputed, AreExpressed, HaveAttributes};
+
+/// What operators do, worked by hand.
+pub fn operators_are_worked()
+    ensures computed { AreComputed }
+    ensures compared { AreCompared }
+    ensures expressed { AreExpressed }
+    ensures assigned { AreAssigned }
+    ensures attributes { HaveAttributes }
+{}
