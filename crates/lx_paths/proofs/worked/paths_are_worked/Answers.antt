@@ -1,0 +1,22 @@
+use Rattle.std.proofs.Common.{refl}
+use Rattle.std.specs.Fmt.{digits}
+use Rattle.lx_state.specs.Naming.{bind_items, bind_list, bind_name, bind_value, bind_within, mark, name_object}
+use Rattle.lx_paths.specs.Paths.{modules_around}
+use Rattle.lx_paths.proofs.worked.paths_are_worked.Goals as goal
+
+pub returns : goal.returns
+unfolding digits bind_items bind_list bind_name bind_value bind_within mark name_object modules_around
+returns c = record {
+  in_a_loop = refl;
+  unnamed = refl;
+  unnamed_module = refl;
+  by_local = refl;
+  by_attribute = refl;
+  in_a_list = refl;
+  given = refl;
+  handed = refl;
+  in_a_default = refl;
+  in_a_spare = refl;
+  part = refl;
+  nothing = refl;
+}

@@ -1,0 +1,82 @@
+-- The names of what a description made, and the paths to it, once all classes were gone through and the top was made.
+use Rattle.std.specs.Prelude.{ℕ, zero, suc, ◌+◌, Bool, List, [], ◌∷◌, ◌++◌, map, length, codes, slice_get, nat_eq, Option, Some, None, option_to_list, unwrap_or, if◌then◌else◌}
+use Rattle.std.specs.Char.{to_ascii_lowercase}
+use Rattle.std.specs.List.{range_with_len}
+use Rattle.lx_state.specs.declared.machine.Class.{Class}
+use Rattle.lx_state.specs.declared.machine.Machine.{Machine}
+use Rattle.lx_state.specs.declared.machine.Module.{Module}
+use Rattle.lx_state.specs.declared.machine.Object.{Object}
+use Rattle.lx_state.specs.declared.machine.Owner.{Owner}
+use Rattle.lx_state.specs.declared.machine.What.{What}
+use Rattle.lx_state.specs.declared.machine.What.TheVariants as what
+use Rattle.lx_state.specs.Frames.{or_else}
+
+-- ---- names
+
+-- the class's name in lower case
+abbrev pub class_name : Option Class → List ℕ
+class_name None = codes "module"
+class_name (Some c) = map to_ascii_lowercase c.name
+
+abbrev pub module_name : Machine → Option Module → List ℕ
+module_name m None = class_name None
+module_name m (Some x) = class_name (slice_get m.classes x.class)
+
+-- of what has no other name
+abbrev pub kind_name : Machine → What → List ℕ
+kind_name m (what.Signal x) = codes "sig"
+kind_name m (what.Module at) = module_name m (slice_get m.modules at)
+
+-- `name=`, else that of the first binding to an attribute, else that of the first one to a local name
+abbrev pub chosen_name : Object → Option (List ℕ)
+chosen_name o = or_else o.given (or_else o.by_attribute o.by_local)
+
+abbrev pub own_name : Machine → Object → List ℕ
+own_name m o = unwrap_or (chosen_name o) (kind_name m o.what)
+
+-- ---- the modules around
+
+-- the top is of the last class, which no other class sees
+abbrev pub is_top : Machine → Module → Bool
+is_top m x = nat_eq (x.class + 1) (length m.classes)
+
+abbrev pub module_below : Machine → Option Module → Option Object
+module_below m None = None
+module_below m (Some x) = if is_top m x then None else slice_get m.objects x.object
+
+-- the module in whose `__init__` something was made, where it stands below the top
+abbrev pub maker_below : Machine → Option ℕ → Option Object
+maker_below m None = None
+maker_below m (Some at) = module_below m (slice_get m.modules at)
+
+abbrev pub from_maker : (Object → List Object) → Option Object → List Object
+from_maker around None = []
+from_maker around (Some x) = around x ++ x ∷ []
+
+-- the modules below the top in whose `__init__` an object was made, the outermost first, within so many levels
+unfoldable pub modules_around : Machine → ℕ → Object → List Object
+modules_around m zero o = []
+modules_around m (suc levels) o = from_maker (modules_around m levels) (maker_below m o.maker)
+
+-- ---- paths
+
+-- no more classes are made one within another
+abbrev pub object_path : Machine → Option (List ℕ) → Object → List (List ℕ)
+object_path m part o = map (own_name m) (modules_around m 64 o ++ o ∷ []) ++ option_to_list part
+
+abbrev pub some_path : Machine → Option (List ℕ) → Option Object → List (List ℕ)
+some_path m part None = []
+some_path m part (Some o) = object_path m part o
+
+-- of an object, or of a part of it
+abbrev pub path_of : Machine → ℕ → Option (List ℕ) → List (List ℕ)
+path_of m object part = some_path m part (slice_get m.objects object)
+
+-- generated hardware is nobody's
+abbrev pub owner_path : Machine → Option Owner → List (List ℕ)
+owner_path m None = []
+owner_path m (Some x) = path_of m x.object x.part
+
+-- of each signal, in order
+abbrev pub signal_paths : Machine → List (List (List ℕ))
+signal_paths m = map (λ x. owner_path m (slice_get m.owners x)) (range_with_len 0 (length m.shaped.signals))

@@ -1,0 +1,86 @@
+-- Names and paths worked by hand.
+use Rattle.std.specs.Prelude.{◌≡◌, ℕ, List, [], ◌∷◌, codes, Option, Some, None, Ok}
+use Rattle.lx_fhdl.specs.Drafts.{started}
+use Rattle.lx_fhdl.specs.Instance.{signal_of, the_signal}
+use Rattle.lx_state.specs.declared.values.Value.TheVariants as value
+use Rattle.lx_state.specs.declared.machine.Binding.TheVariants as binding
+use Rattle.lx_state.specs.declared.machine.Machine.{Machine}
+use Rattle.lx_state.specs.declared.machine.Module.{Module}
+use Rattle.lx_state.specs.declared.machine.ModuleKind.TheVariants as bases
+use Rattle.lx_state.specs.declared.machine.Object.{Object}
+use Rattle.lx_state.specs.declared.machine.Owner.{Owner}
+use Rattle.lx_state.specs.declared.machine.What.TheVariants as what
+use Rattle.lx_state.specs.Naming.{bind_name}
+use Rattle.lx_state.specs.Step.{◌>>=◌}
+use Rattle.lx_state.specs.Worked.{a_class, items, seen, start}
+use Rattle.lx_paths.specs.Paths.{own_name, path_of, signal_paths}
+
+abbrev pub Name : Type 0
+Name = Option (List ℕ)
+
+-- a signal, or a module, with its maker, and the names that it was bound to
+abbrev pub a_signal : Option ℕ → Name → Name → Object
+a_signal maker attribute local = record { what = what.Signal (the_signal 0); line = 1; maker = maker; given = None; by_attribute = attribute; by_local = local }
+
+abbrev pub a_module : ℕ → Option ℕ → Name → Name → Object
+a_module at maker attribute local = record { what = what.Module at; line = 1; maker = maker; given = None; by_attribute = attribute; by_local = local }
+
+abbrev pub the_module : ℕ → ℕ → Module
+the_module object class = record { object = object; class = class; kind = bases.Plain; attributes = []; comb = []; sync = []; submodules = []; added = None; room = 63 }
+
+abbrev pub whose : ℕ → Name → Owner
+whose object part = record { object = object; part = part }
+
+-- two signals of the top, and two modules `Inv` of two signals each, which a loop of the top made and bound to `m`
+abbrev pub inverters : Machine
+inverters = record start {
+  classes = a_class (codes "Inv") ∷ a_class (codes "Top") ∷ [];
+  objects = a_module 0 None None None
+      ∷ a_signal (Some 0) (Some (codes "x")) None ∷ a_signal (Some 0) (Some (codes "y")) None
+      ∷ a_module 1 (Some 0) None (Some (codes "m")) ∷ a_signal (Some 1) (Some (codes "i")) None ∷ a_signal (Some 1) (Some (codes "o")) None
+      ∷ a_module 2 (Some 0) None (Some (codes "m")) ∷ a_signal (Some 2) (Some (codes "i")) None ∷ a_signal (Some 2) (Some (codes "o")) None ∷ [];
+  modules = the_module 0 1 ∷ the_module 3 0 ∷ the_module 6 0 ∷ [];
+  owners = whose 1 None ∷ whose 2 None ∷ whose 4 None ∷ whose 5 None ∷ whose 7 None ∷ whose 8 None ∷ [];
+  shaped = started (signal_of [] 2 0 ∷ signal_of [] 2 0 ∷ signal_of [] 2 0 ∷ signal_of [] 2 0 ∷ signal_of [] 2 0 ∷ signal_of [] 2 0 ∷ []) [];
+}
+
+-- the top, its module `row`, and in that a module `Cell` with a signal, all three of them unbound; a `Cell` with a signal
+-- that a default made, and a signal that one made; two of the design's signals are a part of the row, and nobody's
+abbrev pub rows : Machine
+rows = record start {
+  classes = a_class (codes "Cell") ∷ a_class (codes "Row") ∷ a_class (codes "Top") ∷ [];
+  objects = a_module 0 None None None
+      ∷ a_module 1 (Some 0) (Some (codes "row")) None ∷ a_module 2 (Some 1) None None ∷ a_signal (Some 2) None None
+      ∷ a_module 3 None (Some (codes "spare")) None ∷ a_signal (Some 3) None (Some (codes "s")) ∷ a_signal None None (Some (codes "d")) ∷ [];
+  modules = the_module 0 2 ∷ the_module 1 1 ∷ the_module 2 0 ∷ the_module 4 0 ∷ [];
+  lists = items (value.Object 2 ∷ value.Object 3 ∷ []) 1 ∷ [];
+  owners = whose 1 (Some (codes "re")) ∷ [];
+  shaped = started (signal_of [] 2 0 ∷ signal_of [] 2 0 ∷ []) [];
+}
+
+-- the path of the signal in the cell
+abbrev pub inner : Machine → List (List ℕ)
+inner m = path_of m 3 None
+
+-- What the names and paths are.
+pub record AreWorked : Type 0 where
+  -- modules of a loop have the loop's name, and their paths needn't differ
+  pub in_a_loop : signal_paths inverters ≡ (codes "x" ∷ []) ∷ (codes "y" ∷ []) ∷ (codes "m" ∷ codes "i" ∷ []) ∷ (codes "m" ∷ codes "o" ∷ []) ∷ (codes "m" ∷ codes "i" ∷ []) ∷ (codes "m" ∷ codes "o" ∷ []) ∷ []
+  -- the outermost module comes first, without the top; what nothing names has the name of its kind
+  pub unnamed : inner rows ≡ codes "row" ∷ codes "cell" ∷ codes "sig" ∷ []
+  pub unnamed_module : path_of rows 2 None ≡ codes "row" ∷ codes "cell" ∷ []
+  -- an attribute's name goes before a local one, whichever was first
+  pub by_local : seen inner (bind_name binding.Local (codes "a") (value.Object 3) rows) ≡ Ok (codes "row" ∷ codes "cell" ∷ codes "a" ∷ [])
+  pub by_attribute : seen inner ((bind_name binding.Local (codes "a") (value.Object 3) >>= λ _. bind_name binding.Attribute (codes "b") (value.Object 3)) rows) ≡ Ok (codes "row" ∷ codes "cell" ∷ codes "b" ∷ [])
+  -- the items of a list are named from it
+  pub in_a_list : seen inner (bind_name binding.Attribute (codes "c") (value.List 0) rows) ≡ Ok (codes "row" ∷ codes "c_0" ∷ codes "c_1" ∷ [])
+  -- `name=` goes before both
+  pub given : own_name rows (record (a_signal (Some 2) (Some (codes "b")) (Some (codes "a"))) { given = Some (codes "g") }) ≡ codes "g"
+  -- what is handed to another module keeps the modules in which it was made
+  pub handed : seen (λ m. path_of m 6 None) (bind_name binding.Attribute (codes "in") (value.Object 6) rows) ≡ Ok (codes "in" ∷ [])
+  -- what a default made is in no module, but a module that it made is one
+  pub in_a_default : path_of rows 6 None ≡ codes "d" ∷ []
+  pub in_a_spare : path_of rows 5 None ≡ codes "spare" ∷ codes "s" ∷ []
+  -- a part comes last, and what is nobody's has no path
+  pub part : signal_paths rows ≡ (codes "row" ∷ codes "re" ∷ []) ∷ [] ∷ []
+  pub nothing : path_of rows 9 (Some (codes "re")) ≡ []

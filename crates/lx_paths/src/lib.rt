@@ -1,0 +1,6 @@
+//! The names of what a running description has made, and the paths of its signals.
+#![tactic(auto)]
+
+pub mod names;
+pub mod paths;
+pub mod worked;

@@ -1,0 +1,142 @@
+//! The paths of objects and of signals: the names of the modules around them, and their own.
+
+ghost use Rattle.std.specs.Prelude.{◌≡◌, ◌++◌, ◌∷◌, [], IfOk, OnOk, map, option_copied, option_to_list, reverse, slice_get};
+ghost use Rattle.lx_paths.specs.Paths.{is_top, maker_below, module_below, modules_around, object_path, own_name, owner_path, path_of, signal_paths};
+
+use crate::names::own_name;
+use lx_state::machine::{Machine, Module, Object};
+use lx_text::{List, NoMemory, Word};
+use std::alloc::Global;
+
+/// Whether a module is the top.
+pub fn is_top(machine: &Machine, candidate: &Module) -> bool
+    ensures { result ≡ is_top machine.now candidate.now }
+{
+    candidate.class as u128 + 1 == machine.classes.len() as u128
+}
+
+// The object of a module, unless it is the top.
+fn module_below(machine: &Machine, at: usize) -> Option<&Object>
+    ensures { option_copied result ≡ module_below machine.now (slice_get machine.now.modules at) }
+{
+    match machine.modules.get(at) {
+        Some(module) => {
+            if is_top(machine, module) {
+                return None;
+            }
+            machine.objects.get(module.object)
+        }
+        None => None,
+    }
+}
+
+// The module in whose `__init__` an object was made, unless it is the top.
+fn maker_below(machine: &Machine, maker: Option<usize>) -> Option<&Object>
+    ensures { option_copied result ≡ maker_below machine.now maker }
+{
+    match maker {
+        Some(at) => module_below(machine, at),
+        None => None,
+    }
+}
+
+// Adds the name of an object.
+fn push_name(
+    machine: &Machine,
+    alloc: Global,
+    names: &mut Vec<Word>,
+    object: &Object,
+) -> Result<(), NoMemory>
+    ensures { OnOk result (names.new.items ≡ names.old.items ++ own_name machine.now object.now ∷ []) }
+{
+    let name = own_name(machine, alloc, object)?;
+    names.push(name)?;
+    Ok(())
+}
+
+// Adds the names of the modules around an object, the innermost first.
+#[tactic(auto, using(crate::proofs::Around::name_next, crate::proofs::Around::no_name, crate::proofs::Around::no_level, crate::proofs::Around::no_maker))]
+fn push_around(
+    machine: &Machine,
+    alloc: Global,
+    names: &mut Vec<Word>,
+    object: &Object,
+) -> Result<(), NoMemory>
+    ensures { OnOk result (reverse names.new.items ≡ map (own_name machine.now) (modules_around machine.now 64 object.now) ++ reverse names.old.items) }
+{
+    let mut inner = object;
+    for _level in 0..64usize {
+        match maker_below(machine, inner.maker) {
+            Some(module) => {
+                push_name(machine, alloc, names, module)?;
+                inner = module;
+            }
+            None => return Ok(()),
+        }
+    }
+    Ok(())
+}
+
+// The name of a part, where there is one.
+fn part_name(alloc: Global, part: Option<&Word>) -> Result<Vec<Word>, NoMemory>
+    ensures { IfOk result (λ names. names.items ≡ option_to_list (option_copied part.entry)) }
+{
+    let mut names = Vec::new(alloc);
+    if let Some(part) = part {
+        names.push(part.copied(alloc)?)?;
+    }
+    Ok(names)
+}
+
+#[tactic(auto, using(crate::proofs::Around::path_is))]
+fn object_path(
+    machine: &Machine,
+    alloc: Global,
+    object: &Object,
+    part: Option<&Word>,
+) -> Result<List<Word>, NoMemory>
+    ensures { IfOk result (λ path. path ≡ object_path machine.now (option_copied part.entry) object.now) }
+{
+    let mut names = part_name(alloc, part)?;
+    push_name(machine, alloc, &mut names, object)?;
+    push_around(machine, alloc, &mut names, object)?;
+    names.reverse();
+    Ok(List::from_vec(names))
+}
+
+/// The path of an object, or of a part of it: the names of the modules below the top in whose `__init__` it was made,
+/// the outermost first, then its own name, then the part. It is for a machine in which the top was made.
+pub fn path_of(
+    machine: &Machine,
+    alloc: Global,
+    object: usize,
+    part: Option<&Word>,
+) -> Result<List<Word>, NoMemory>
+    ensures { IfOk result (λ path. path ≡ path_of machine.now object (option_copied part.entry)) }
+{
+    match machine.objects.get(object) {
+        Some(object) => object_path(machine, alloc, object, part),
+        None => Ok(List::new(alloc)),
+    }
+}
+
+/// The path of a signal, which is empty where it is nobody's.
+pub fn signal_path(machine: &Machine, alloc: Global, signal: usize) -> Result<List<Word>, NoMemory>
+    ensures { IfOk result (λ path. path ≡ owner_path machine.now (slice_get machine.now.owners signal)) }
+{
+    match machine.owners.get(signal) {
+        Some(owner) => path_of(machine, alloc, owner.object, owner.part.as_ref()),
+        None => Ok(List::new(alloc)),
+    }
+}
+
+/// The paths of the signals, in the order of the design.
+pub fn signal_paths(machine: &Machine, alloc: Global) -> Result<List<List<Word>>, NoMemory>
+    ensures { IfOk result (λ paths. paths ≡ signal_paths machine.now) }
+{
+    let mut paths = List::new(alloc);
+    for signal in 0..machine.shaped.design().signals.len() {
+        paths.push(signal_path(machine, alloc, signal)?)?;
+    }
+    Ok(paths)
+}
