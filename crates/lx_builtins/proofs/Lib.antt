@@ -1,0 +1,3 @@
+pub mod Exponents
+pub mod Joint
+pub mod Steps

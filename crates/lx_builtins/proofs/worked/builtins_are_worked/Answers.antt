@@ -1,0 +1,75 @@
+use Rattle.std.proofs.Common.{refl}
+use Rattle.lx_value.specs.Numbers.{python_value}
+use Rattle.lx_value.specs.Arguments.{bounds_of, is_wrong_count}
+use Rattle.lx_arena.specs.Folds.{fold_at}
+use Rattle.lx_fhdl.specs.Designs.{circuit_of}
+use Rattle.lx_fhdl.specs.Trees.{term_at}
+use Rattle.lx_shaped.specs.Making.{make_expr, make_signal}
+use Rattle.lx_state.specs.Lists.{array_made, deeper, int_of, ints_of, items_made, items_of, keep_items, list_made, list_of, pairs_of, text_made, text_of, tuple_made}
+use Rattle.lx_state.specs.Naming.{object_made}
+use Rattle.lx_state.specs.Work.{name_fits, spend, spend_nodes, within}
+use Rattle.lx_objects.specs.Exprs.{expr_made, put_expr}
+use Rattle.lx_objects.specs.Modules.{attribute, one_more}
+use Rattle.lx_objects.specs.Signals.{keep_owner, new_signal, put_signal, signal_made, signal_value}
+use Rattle.lx_ops.specs.Attributes.{attribute_of, module_attribute}
+use Rattle.lx_ops.specs.Exprs.{binary_made, constant, expr_of, exprs_of, least, unary_made}
+use Rattle.lx_builtins.specs.Arguments.{bound_to, identifier_of, no_argument, one, one_or_two, three, two, unnamed}
+use Rattle.lx_builtins.specs.Calls.{builtin_called, method_called}
+use Rattle.lx_builtins.specs.Exprs.{array_called, array_of_list, cat_called, constant_called, mux_called, operands_only, replicate_called, shaped_constant, stated, stated_pair}
+use Rattle.lx_builtins.specs.Numbers.{bits_for_called, counts, exponent_below, int_called, log2_int_called, max_called, min_called, one_integer, range_called, steps_from, str_called}
+use Rattle.lx_builtins.specs.Objects.{getattr_called, holds_attributes, setattr_called, setattr_on}
+use Rattle.lx_builtins.specs.Sequences.{counted, enumerate_called, joint_pairs, len_called, list_called, numbered_pairs, pair_made, reversed_called, zip_called}
+use Rattle.lx_builtins.specs.Signals.{all_looked_at, integer_looked_at, name_looked_at, shape_looked_at, signal_called, signal_from, signal_of, sized, spanned}
+use Rattle.lx_builtins.proofs.worked.builtins_are_worked.Goals as goal
+
+pub returns-clause-counted : goal.returns-clause-counted
+unfolding python_value bounds_of is_wrong_count fold_at circuit_of term_at make_expr make_signal array_made int_of ints_of items_made items_of keep_items list_made list_of text_made text_of tuple_made deeper pairs_of object_made name_fits spend spend_nodes within expr_made put_expr attribute one_more keep_owner new_signal put_signal signal_made signal_value attribute_of module_attribute least constant expr_of exprs_of unary_made binary_made bound_to unnamed no_argument one two one_or_two three identifier_of builtin_called method_called stated_pair stated shaped_constant constant_called cat_called replicate_called mux_called operands_only array_of_list array_called steps_from counts range_called min_called max_called one_integer int_called str_called bits_for_called log2_int_called setattr_called setattr_on holds_attributes getattr_called counted len_called list_called reversed_called pair_made numbered_pairs enumerate_called joint_pairs zip_called sized shape_looked_at name_looked_at integer_looked_at all_looked_at spanned signal_of signal_from signal_called exponent_below
+returns-clause-counted c = record {
+  down = refl;
+  up = refl;
+  at_most = refl;
+  no_step = refl;
+  range_of_nothing = refl;
+  bits_of_a = refl;
+  pairs = refl;
+  shorter = refl;
+  backwards = refl;
+  least = refl;
+  greatest = refl;
+  least_of_nothing = refl;
+  exponent = refl;
+  no_power = refl;
+  bits_of_zero = refl;
+}
+
+pub returns-clause-declared : goal.returns-clause-declared
+unfolding python_value bounds_of is_wrong_count fold_at circuit_of term_at make_expr make_signal array_made int_of ints_of items_made items_of keep_items list_made list_of text_made text_of tuple_made deeper pairs_of object_made name_fits spend spend_nodes within expr_made put_expr attribute one_more keep_owner new_signal put_signal signal_made signal_value attribute_of module_attribute least constant expr_of exprs_of unary_made binary_made bound_to unnamed no_argument one two one_or_two three identifier_of builtin_called method_called stated_pair stated shaped_constant constant_called cat_called replicate_called mux_called operands_only array_of_list array_called steps_from counts range_called min_called max_called one_integer int_called str_called bits_for_called log2_int_called setattr_called setattr_on holds_attributes getattr_called counted len_called list_called reversed_called pair_made numbered_pairs enumerate_called joint_pairs zip_called sized shape_looked_at name_looked_at integer_looked_at all_looked_at spanned signal_of signal_from signal_called exponent_below
+returns-clause-declared c = record {
+  plain = refl;
+  spanned = refl;
+  below_zero = refl;
+  signed = refl;
+  wrapped = refl;
+  no_bits = refl;
+  many_bits = refl;
+  no_such_name = refl;
+  name_first = refl;
+  reset_first = refl;
+}
+
+pub returns-clause-expressed : goal.returns-clause-expressed
+unfolding python_value bounds_of is_wrong_count fold_at circuit_of term_at make_expr make_signal array_made int_of ints_of items_made items_of keep_items list_made list_of text_made text_of tuple_made deeper pairs_of object_made name_fits spend spend_nodes within expr_made put_expr attribute one_more keep_owner new_signal put_signal signal_made signal_value attribute_of module_attribute least constant expr_of exprs_of unary_made binary_made bound_to unnamed no_argument one two one_or_two three identifier_of builtin_called method_called stated_pair stated shaped_constant constant_called cat_called replicate_called mux_called operands_only array_of_list array_called steps_from counts range_called min_called max_called one_integer int_called str_called bits_for_called log2_int_called setattr_called setattr_on holds_attributes getattr_called counted len_called list_called reversed_called pair_made numbered_pairs enumerate_called joint_pairs zip_called sized shape_looked_at name_looked_at integer_looked_at all_looked_at spanned signal_of signal_from signal_called exponent_below
+returns-clause-expressed c = record {
+  fewest_bits = refl;
+  stated = refl;
+  of_no_bits = refl;
+  of_nothing = refl;
+  never = refl;
+  chosen = refl;
+  array = refl;
+  array_of_nothing = refl;
+  bad_name = refl;
+  unbound = refl;
+  memory = refl;
+  mode = refl;
+}

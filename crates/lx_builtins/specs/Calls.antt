@@ -1,0 +1,54 @@
+-- What can be called, but for classes.
+use Rattle.std.specs.Prelude.{ℕ}
+use Rattle.lx_text.specs.declared.faults.Kind.TheVariants as kind
+use Rattle.lx_state.specs.declared.values.Builtin.{Builtin}
+use Rattle.lx_state.specs.declared.values.Builtin.TheVariants as builtin
+use Rattle.lx_state.specs.declared.values.Method.{Method}
+use Rattle.lx_state.specs.declared.values.Method.TheVariants as method
+use Rattle.lx_state.specs.declared.values.Value.{Value}
+use Rattle.lx_state.specs.Step.{Step, fault}
+use Rattle.lx_builtins.specs.Exprs.{array_called, cat_called, constant_called, mux_called, replicate_called}
+use Rattle.lx_builtins.specs.Numbers.{bits_for_called, int_called, log2_int_called, max_called, min_called, range_called, str_called}
+use Rattle.lx_builtins.specs.Objects.{case_called, elif_called, else_called, eq_called, getattr_called, if_called, init_called, setattr_called, super_called}
+use Rattle.lx_builtins.specs.Sequences.{enumerate_called, len_called, list_called, reversed_called, zip_called}
+use Rattle.lx_builtins.specs.Signals.{signal_called}
+use Rattle.lx_builtins.specs.declared.arguments.Arguments.{Arguments}
+
+-- a built-in name; the modes of ports and `wishbone` can't be called, and what isn't built yet says so
+unfoldable pub builtin_called : ℕ → Builtin → Arguments → Step Value
+builtin_called line builtin.Range args = range_called line args
+builtin_called line builtin.Len args = len_called line args
+builtin_called line builtin.Enumerate args = enumerate_called line args
+builtin_called line builtin.Zip args = zip_called line args
+builtin_called line builtin.Reversed args = reversed_called line args
+builtin_called line builtin.List args = list_called line args
+builtin_called line builtin.Min args = min_called line args
+builtin_called line builtin.Max args = max_called line args
+builtin_called line builtin.Int args = int_called line args
+builtin_called line builtin.Str args = str_called line args
+builtin_called line builtin.BitsFor args = bits_for_called line args
+builtin_called line builtin.Log2Int args = log2_int_called line args
+builtin_called line builtin.SetAttr args = setattr_called line args
+builtin_called line builtin.GetAttr args = getattr_called line args
+builtin_called line builtin.Super args = super_called line args
+builtin_called line builtin.Signal args = signal_called line args
+builtin_called line builtin.C args = constant_called line args
+builtin_called line builtin.Constant args = constant_called line args
+builtin_called line builtin.Cat args = cat_called line args
+builtin_called line builtin.Replicate args = replicate_called line args
+builtin_called line builtin.Mux args = mux_called line args
+builtin_called line builtin.Array args = array_called line args
+builtin_called line builtin.If args = if_called line args
+builtin_called line builtin.Case args = case_called line args
+builtin_called line builtin.WriteFirst args = fault line kind.WrongKind
+builtin_called line builtin.ReadFirst args = fault line kind.WrongKind
+builtin_called line builtin.NoChange args = fault line kind.WrongKind
+builtin_called line builtin.Wishbone args = fault line kind.WrongKind
+builtin_called line _ args = fault line kind.NotYetBuilt
+
+-- a method of an object
+unfoldable pub method_called : ℕ → Method → Arguments → Step Value
+method_called line (method.Eq id) args = eq_called line id args
+method_called line (method.Elif at) args = elif_called line at args
+method_called line (method.Else at) args = else_called line at args
+method_called line (method.Init at) args = init_called line at args

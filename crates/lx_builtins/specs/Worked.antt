@@ -1,0 +1,95 @@
+-- Built-in names, worked by hand.
+use Rattle.std.specs.Prelude.{◌≡◌, ℕ, ℤ, pos, negsuc, true, false, List, [], ◌∷◌, length, map, codes, Some, None, Ok}
+use Rattle.lx_text.specs.declared.faults.Kind.TheVariants as kind
+use Rattle.lx_num.specs.Ints.{shape}
+use Rattle.lx_num.specs.declared.Shape.{Shape}
+use Rattle.lx_fhdl.specs.Instance.{the_expr}
+use Rattle.lx_fhdl.specs.declared.design.Signal.{Signal}
+use Rattle.lx_fhdl.specs.declared.exprs.Expr.TheVariants as expr
+use Rattle.lx_state.specs.declared.machine.Binding.TheVariants as binding
+use Rattle.lx_state.specs.declared.machine.Leaves.TheVariants as leaves
+use Rattle.lx_state.specs.declared.machine.Machine.{Machine}
+use Rattle.lx_state.specs.declared.values.Builtin.{Builtin}
+use Rattle.lx_state.specs.declared.values.Builtin.TheVariants as builtin
+use Rattle.lx_state.specs.declared.values.Value.{Value}
+use Rattle.lx_state.specs.declared.values.Value.TheVariants as value
+use Rattle.lx_state.specs.Step.{Outcome}
+use Rattle.lx_state.specs.Worked.{seen, spent, start}
+use Rattle.lx_ops.specs.Worked.{a, at_nine, expr_at, int, some, top, value_of, values_at, w}
+use Rattle.lx_builtins.specs.Calls.{builtin_called}
+use Rattle.lx_builtins.specs.Numbers.{steps_from}
+use Rattle.lx_builtins.specs.declared.arguments.Arguments.{Arguments}
+
+-- arguments without names, and with them
+abbrev pub given : List Value → List (List ℕ) → List Value → Arguments
+given placed names named = record { placed = placed; names = names; named = named; part = None }
+
+abbrev pub call : Builtin → List Value → Machine → Outcome Value
+call b placed m = builtin_called 9 b (given placed [] []) m
+
+-- `Signal` with one named argument
+abbrev pub signal_with : List ℕ → Value → Machine → Outcome Value
+signal_with name v m = builtin_called 9 builtin.Signal (given [] (name ∷ []) (v ∷ [])) m
+
+abbrev pub minus : ℕ → Value
+minus n = value.Int (negsuc n)
+
+abbrev pub shapes : Machine → List Shape
+shapes m = map (λ (x : Signal). x.shape) m.shaped.signals
+
+abbrev pub resets : Machine → List ℤ
+resets m = map (λ (x : Signal). x.reset) m.shaped.signals
+
+abbrev pub list_count : Machine → ℕ
+list_count m = length m.lists
+
+-- with the texts "a b" and "x", and the tuple `(4, True)`
+abbrev pub named : Machine
+named = record start {
+  texts = codes "a b" ∷ codes "x" ∷ [];
+  lists = record { values = int 4 ∷ int 1 ∷ []; depth = 1; leaves = leaves.Others; size = 0; named = binding.Nowhere } ∷ [];
+}
+
+pub record AreCounted : Type 0 where
+  pub down : steps_from 9 (negsuc 1) (pos 5) (pos 0) ≡ pos 5 ∷ pos 3 ∷ pos 1 ∷ []
+  pub up : steps_from 9 (pos 1) (pos 0) (pos 2) ≡ pos 0 ∷ pos 1 ∷ []
+  pub at_most : steps_from 2 (pos 1) (pos 0) (pos 9) ≡ pos 0 ∷ pos 1 ∷ []
+  pub no_step : value_of (call builtin.Range (int 1 ∷ int 2 ∷ int 0 ∷ []) some) ≡ at_nine kind.NumberRange
+  pub range_of_nothing : value_of (call builtin.Range [] some) ≡ at_nine kind.WrongCount
+  pub bits_of_a : value_of (call builtin.Len (a ∷ []) some) ≡ Ok (int 4)
+  pub pairs : seen spent (call builtin.Enumerate (value.List 2 ∷ []) some) ≡ Ok 9
+  pub shorter : seen spent (call builtin.Zip (value.List 1 ∷ value.List 2 ∷ []) some) ≡ Ok 6
+  pub backwards : seen (values_at 3) (call builtin.Reversed (value.List 1 ∷ []) some) ≡ Ok ((a ∷ int 7 ∷ []) ∷ [])
+  pub least : value_of (call builtin.Min (int 3 ∷ minus 0 ∷ int 2 ∷ []) some) ≡ Ok (minus 0)
+  pub greatest : value_of (call builtin.Max (int 3 ∷ minus 0 ∷ int 2 ∷ []) some) ≡ Ok (int 3)
+  pub least_of_nothing : value_of (call builtin.Min [] some) ≡ at_nine kind.WrongCount
+  pub exponent : value_of (call builtin.Log2Int (int 8 ∷ []) some) ≡ Ok (int 3)
+  pub no_power : value_of (call builtin.Log2Int (int 6 ∷ []) some) ≡ at_nine kind.NumberRange
+  pub bits_of_zero : value_of (call builtin.BitsFor (int 0 ∷ []) some) ≡ Ok (int 1)
+
+pub record AreDeclared : Type 0 where
+  pub plain : seen shapes (call builtin.Signal [] start) ≡ Ok (shape 1 false ∷ [])
+  pub spanned : seen shapes (signal_with (codes "max") (int 10) start) ≡ Ok (shape 4 false ∷ [])
+  pub below_zero : seen shapes (signal_with (codes "min") (minus 2) start) ≡ Ok (shape 3 true ∷ [])
+  pub signed : seen shapes (call builtin.Signal (value.Tuple 0 ∷ []) named) ≡ Ok (shape 4 true ∷ [])
+  pub wrapped : seen resets (signal_with (codes "reset") (int 3) start) ≡ Ok (pos 1 ∷ [])
+  pub no_bits : value_of (call builtin.Signal (int 0 ∷ []) start) ≡ at_nine kind.BadWidth
+  pub many_bits : value_of (call builtin.Signal (int 65 ∷ []) start) ≡ at_nine kind.BadWidth
+  pub no_such_name : value_of (signal_with (codes "variable") (int 1) start) ≡ at_nine kind.WrongCount
+  -- the argument that stands first has the first fault
+  pub name_first : value_of (builtin_called 9 builtin.Signal (given [] (codes "name" ∷ codes "reset" ∷ []) (value.Text 0 ∷ value.Text 1 ∷ [])) named) ≡ at_nine kind.BadKey
+  pub reset_first : value_of (builtin_called 9 builtin.Signal (given [] (codes "reset" ∷ codes "name" ∷ []) (value.Text 1 ∷ value.Text 0 ∷ [])) named) ≡ at_nine kind.WrongKind
+
+pub record AreExpressed : Type 0 where
+  pub fewest_bits : seen (expr_at 4) (call builtin.C (int 5 ∷ []) some) ≡ Ok (Some (expr.Const (pos 5) 3 false))
+  pub stated : seen (expr_at 4) (call builtin.C (int 5 ∷ int 2 ∷ []) some) ≡ Ok (Some (expr.Const (pos 5) 2 false))
+  pub of_no_bits : value_of (call builtin.C (int 5 ∷ minus 0 ∷ []) some) ≡ at_nine kind.BadWidth
+  pub of_nothing : value_of (call builtin.Cat [] some) ≡ at_nine kind.WrongCount
+  pub never : value_of (call builtin.Replicate (a ∷ int 0 ∷ []) some) ≡ at_nine kind.BadWidth
+  pub chosen : seen (expr_at 4) (call builtin.Mux (a ∷ w ∷ a ∷ []) some) ≡ Ok (Some (expr.Mux (the_expr 0) (the_expr 1) (the_expr 0)))
+  pub array : value_of (call builtin.Array (value.List 2 ∷ []) some) ≡ Ok (value.Array 3)
+  pub array_of_nothing : value_of (call builtin.Array (value.List 0 ∷ []) some) ≡ at_nine kind.WrongCount
+  pub bad_name : value_of (call builtin.SetAttr (value.Object 0 ∷ value.Text 0 ∷ a ∷ []) (record top { texts = named.texts })) ≡ at_nine kind.BadKey
+  pub unbound : value_of (call builtin.GetAttr (value.Object 0 ∷ value.Text 1 ∷ []) top) ≡ at_nine (kind.UnknownName (codes "c"))
+  pub memory : value_of (call builtin.Memory (int 8 ∷ int 4 ∷ []) some) ≡ at_nine kind.NotYetBuilt
+  pub mode : value_of (call builtin.ReadFirst [] some) ≡ at_nine kind.WrongKind

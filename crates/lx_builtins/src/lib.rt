@@ -1,0 +1,15 @@
+//! What the built-in names and the methods of a description do.
+#![tactic(auto)]
+
+pub mod arguments;
+pub mod calls;
+pub mod exprs;
+pub mod numbers;
+pub mod objects;
+pub mod sequences;
+pub mod signals;
+mod texts;
+pub mod worked;
+
+pub use arguments::Arguments;
+pub use calls::{builtin_called, method_called};
