@@ -9,7 +9,7 @@ use std::alloc::Global;
 use std::marker::{Model, PhantomData};
 
 /// The place of a node in an arena whose nodes have the tag `K`.
-#[derive(Clone, Copy, Debug, PartialEq, Eq)]
+#[derive(Clone, Copy, PartialEq, Eq)]
 pub struct Id<K> {
     pub place: usize,
     pub of: PhantomData<K>,

@@ -2,7 +2,7 @@
 #![tactic(auto)]
 
 /// Why an expression has no shape.
-#[derive(Clone, Copy, Debug, PartialEq, Eq)]
+#[derive(Clone, Copy, PartialEq, Eq)]
 pub enum WidthFault {
     /// A joined or resulting width above 127; the width, at most 4,294,967,295.
     TooWide(u32),

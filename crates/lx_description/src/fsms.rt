@@ -8,7 +8,7 @@ use lx_fhdl::{ExprId, SigId, TargetId};
 use lx_text::{List, Word};
 
 /// The tag of places in an arena of statements of FSMs.
-#[derive(Clone, Copy, Debug, PartialEq, Eq)]
+#[derive(Clone, Copy, PartialEq, Eq)]
 pub struct InFsmStmts;
 
 /// The place of a statement of an FSM.
@@ -84,7 +84,7 @@ pub struct Asked {
 }
 
 /// Where an FSM was added: what stands in the design before its statements.
-#[derive(Clone, Copy, Debug, PartialEq, Eq)]
+#[derive(Clone, Copy, PartialEq, Eq)]
 pub struct FsmPlace {
     /// How many combinatorial statements.
     pub comb: usize,

@@ -19,7 +19,7 @@ pub struct Field {
 }
 
 /// Who gives a register its value.
-#[derive(Clone, Copy, Debug, PartialEq, Eq)]
+#[derive(Clone, Copy, PartialEq, Eq)]
 pub enum RegKind {
     /// Software (`CSRStorage`).
     Storage,
@@ -56,7 +56,7 @@ pub struct RegDecl {
 }
 
 /// When an event source fires.
-#[derive(Clone, Copy, Debug, PartialEq, Eq)]
+#[derive(Clone, Copy, PartialEq, Eq)]
 pub enum SourceKind {
     /// Where its trigger is 1 (`EventSourcePulse`).
     Pulse,

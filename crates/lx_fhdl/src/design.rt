@@ -35,7 +35,7 @@ pub struct Memory {
 }
 
 /// What a port of a memory reads (the modes of `get_port`).
-#[derive(Clone, Copy, Debug, PartialEq, Eq)]
+#[derive(Clone, Copy, PartialEq, Eq)]
 pub enum PortMode {
     /// The word at the address now.
     Async,
@@ -48,7 +48,7 @@ pub enum PortMode {
 }
 
 /// A port of a memory. It writes where `dat_w` and `we` are there.
-#[derive(Clone, Copy, Debug, PartialEq, Eq)]
+#[derive(Clone, Copy, PartialEq, Eq)]
 pub struct Port {
     pub memory: usize,
     /// Its clock domain; none where it is `Async` and doesn't write.

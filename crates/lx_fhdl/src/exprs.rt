@@ -8,11 +8,11 @@ use lx_tables::Op;
 use lx_text::List;
 
 /// A signal, by its place among the signals of a design.
-#[derive(Clone, Copy, Debug, PartialEq, Eq)]
+#[derive(Clone, Copy, PartialEq, Eq)]
 pub struct SigId(pub usize);
 
 /// The tag of places in an arena of expressions.
-#[derive(Clone, Copy, Debug, PartialEq, Eq)]
+#[derive(Clone, Copy, PartialEq, Eq)]
 pub struct InExprs;
 
 /// The place of an expression.

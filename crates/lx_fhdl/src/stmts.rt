@@ -8,11 +8,11 @@ use lx_arena::{Arena, Id, Node};
 use lx_text::List;
 
 /// The tag of places in an arena of targets.
-#[derive(Clone, Copy, Debug, PartialEq, Eq)]
+#[derive(Clone, Copy, PartialEq, Eq)]
 pub struct InTargets;
 
 /// The tag of places in an arena of statements.
-#[derive(Clone, Copy, Debug, PartialEq, Eq)]
+#[derive(Clone, Copy, PartialEq, Eq)]
 pub struct InStmts;
 
 /// The place of a target.

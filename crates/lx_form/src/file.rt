@@ -3,7 +3,7 @@
 use lx_text::{List, Word};
 
 /// An operator of two operands.
-#[derive(Clone, Copy, Debug)]
+#[derive(Clone, Copy)]
 pub enum Operator {
     And,
     Or,
@@ -12,7 +12,7 @@ pub enum Operator {
 }
 
 /// A right side: a signal, its inverse, or an operator over two signals, each by its letter.
-#[derive(Clone, Copy, Debug)]
+#[derive(Clone, Copy)]
 pub enum Side {
     Same(u8),
     Not(u8),
@@ -20,14 +20,14 @@ pub enum Side {
 }
 
 /// A signal: its letter, and its width in bits, 1 to 64.
-#[derive(Clone, Copy, Debug)]
+#[derive(Clone, Copy)]
 pub struct Signal {
     pub letter: u8,
     pub width: u8,
 }
 
 /// A combinatorial line: the target's letter and the right side.
-#[derive(Clone, Copy, Debug)]
+#[derive(Clone, Copy)]
 pub struct Line {
     pub target: u8,
     pub side: Side,

@@ -10,7 +10,7 @@ use lx_text::NoMemory;
 use std::alloc::Global;
 
 /// Why no description was read.
-#[derive(Clone, Copy, Debug, PartialEq, Eq)]
+#[derive(Clone, Copy, PartialEq, Eq)]
 pub enum ReadError {
     /// The bytes are not of the first form.
     NotYetBuilt,

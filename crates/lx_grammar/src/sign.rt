@@ -9,7 +9,7 @@ use lx_token::{Token, TokenKind};
 use std::alloc::Global;
 
 /// What a token stands for in the grammar. The last five are signs of a token together with what stands behind it.
-#[derive(Clone, Copy, Debug)]
+#[derive(Clone, Copy)]
 pub enum Sign {
     Name,
     Init,
@@ -75,7 +75,7 @@ pub enum Sign {
 }
 
 /// A token and its sign.
-#[derive(Clone, Copy, Debug)]
+#[derive(Clone, Copy)]
 pub struct Item {
     pub token: Token,
     pub sign: Sign,

@@ -8,7 +8,7 @@ ghost use Rattle.lx_num.specs.Fields.{with_field_of};
 ghost use Rattle.lx_num.specs.Laws.{FieldIsLaid, HighBitsStay, LowBitsStay, WrappedFits, WrappedIsCongruent, WrappedIsUnique};
 
 /// A number of bits, 1 to 127, and whether the values are signed (FHDL, "Signal").
-#[derive(Clone, Copy, Debug, PartialEq, Eq)]
+#[derive(Clone, Copy, PartialEq, Eq)]
 pub struct Shape {
     pub bits: u8,
     pub signed: bool,

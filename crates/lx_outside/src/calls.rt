@@ -13,7 +13,7 @@ pub struct Pair {
 }
 
 /// A call that is to fail, by its number, the first being 1, and how many bytes it still takes.
-#[derive(Clone, Copy, Debug)]
+#[derive(Clone, Copy)]
 pub struct Fail {
     pub call: u64,
     pub taken: u64,
@@ -32,7 +32,7 @@ pub enum LoadFault {
 }
 
 /// Writing failed.
-#[derive(Clone, Copy, Debug, PartialEq, Eq)]
+#[derive(Clone, Copy, PartialEq, Eq)]
 pub struct Failed;
 
 /// Files that are read.

@@ -78,7 +78,7 @@ impl Console for MemConsole {
 }
 
 /// A console that tells nothing and never fails.
-#[derive(Clone, Copy, Debug, Default)]
+#[derive(Clone, Copy, Default)]
 pub struct NullConsole;
 
 impl NullConsole {

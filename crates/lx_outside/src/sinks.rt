@@ -123,7 +123,7 @@ impl Sink for MemSink {
 }
 
 /// A sink that tells nothing and never fails.
-#[derive(Clone, Copy, Debug, Default)]
+#[derive(Clone, Copy, Default)]
 pub struct NullSink;
 
 impl NullSink {

@@ -11,11 +11,11 @@ use lx_text::{List, NoMemory};
 use lx_token::Token;
 
 /// The tag of a syntax tree's nodes.
-#[derive(Clone, Copy, Debug)]
+#[derive(Clone, Copy)]
 pub struct PyNodes;
 
 /// A part of a node: a token, or a node.
-#[derive(Clone, Copy, Debug)]
+#[derive(Clone, Copy)]
 pub enum PyPart {
     Token(Token),
     Node(Id<PyNodes>),

@@ -4,7 +4,7 @@ ghost use Rattle.std.specs.Prelude.{◌≡◌};
 ghost use Rattle.lx_tables.specs.Operators.{row_of};
 
 /// An operator of FHDL ("Operators" of the FHDL description).
-#[derive(Clone, Copy, Debug, PartialEq, Eq)]
+#[derive(Clone, Copy, PartialEq, Eq)]
 pub enum Op {
     Neg,
     Not,
@@ -28,7 +28,7 @@ pub enum Op {
 }
 
 /// The signs of a left and a right operand: unsigned or signed.
-#[derive(Clone, Copy, Debug, PartialEq, Eq)]
+#[derive(Clone, Copy, PartialEq, Eq)]
 pub enum Mix {
     UU,
     US,
@@ -37,7 +37,7 @@ pub enum Mix {
 }
 
 /// The form of an expression of Verilog (IEEE 1364-2005, "Expressions") that an operator is written in.
-#[derive(Clone, Copy, Debug, PartialEq, Eq)]
+#[derive(Clone, Copy, PartialEq, Eq)]
 pub enum OpText {
     /// `(-a)`
     Negated,
@@ -83,7 +83,7 @@ pub enum OpText {
 
 /// How an operator is written at two signs of its operands. Of one operand, the left sign counts; of a choice, the
 /// signs of its two branches.
-#[derive(Clone, Copy, Debug, PartialEq, Eq)]
+#[derive(Clone, Copy, PartialEq, Eq)]
 pub struct OpRow {
     /// Whether the operator's values are signed.
     pub signed: bool,

@@ -9,7 +9,7 @@ use crate::lists::{List, NoMemory, Word};
 pub const MAX_BYTES: u64 = 1_048_576;
 
 /// What is limited. Each has a greatest number.
-#[derive(Clone, Copy, Debug)]
+#[derive(Clone, Copy)]
 pub enum LimitKind {
     Work,
     Nodes,

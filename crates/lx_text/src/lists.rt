@@ -9,7 +9,7 @@ use std::marker::Model;
 use std::mem;
 
 /// Memory ran out. It is the one answer that any call which allocates may give.
-#[derive(Clone, Copy, Debug, PartialEq, Eq)]
+#[derive(Clone, Copy, PartialEq, Eq)]
 pub struct NoMemory;
 
 impl From<AllocError> for NoMemory {

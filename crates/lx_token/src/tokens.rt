@@ -9,7 +9,7 @@ use lx_text::{Kind, List, MAX_BYTES, Refusal};
 use std::alloc::Global;
 
 /// What a token is. Which word or operator it is, its slice of the source tells.
-#[derive(Clone, Copy, Debug, PartialEq, Eq)]
+#[derive(Clone, Copy, PartialEq, Eq)]
 pub enum TokenKind {
     Name,
     Keyword,
@@ -23,7 +23,7 @@ pub enum TokenKind {
 }
 
 /// A token: its text is the bytes of the source from `start` to `end`, and `line` is counted from 1.
-#[derive(Clone, Copy, Debug, PartialEq, Eq)]
+#[derive(Clone, Copy, PartialEq, Eq)]
 pub struct Token {
     pub kind: TokenKind,
     pub start: u32,

@@ -19,7 +19,7 @@ pub struct Param {
 }
 
 /// The argument that a parameter gets.
-#[derive(Clone, Copy, Debug, PartialEq, Eq)]
+#[derive(Clone, Copy, PartialEq, Eq)]
 pub enum Bound {
     /// The argument without a name at this place.
     Placed(usize),
@@ -30,7 +30,7 @@ pub enum Bound {
 }
 
 /// Why arguments are not bound.
-#[derive(Clone, Copy, Debug, PartialEq, Eq)]
+#[derive(Clone, Copy, PartialEq, Eq)]
 pub enum BindFault {
     /// The number or a name of the arguments is wrong.
     WrongCount,

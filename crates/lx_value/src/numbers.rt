@@ -7,7 +7,7 @@ ghost use Rattle.lx_value.specs.NumberLaws.{DivisionRoundsDown, PowersMultiply};
 ghost use Rattle.lx_value.specs.Numbers.{IsInteger, python_value, ranged, divided, counted, floor_quotient, floor_remainder, shifted_left, shifted_right};
 
 /// The operators that Python has on two whole numbers.
-#[derive(Clone, Copy, Debug)]
+#[derive(Clone, Copy)]
 pub enum PyOp {
     /// `a + b`
     Add,
@@ -34,7 +34,7 @@ pub enum PyOp {
 }
 
 /// Why an operator gives no integer.
-#[derive(Clone, Copy, Debug, PartialEq, Eq)]
+#[derive(Clone, Copy, PartialEq, Eq)]
 pub enum NumFault {
     /// The divisor is 0.
     DivZero,

@@ -9,11 +9,11 @@ use lx_text::{List, Word};
 use lx_vtext::{BinOp, UnOp};
 
 /// The tag of expressions' places.
-#[derive(Clone, Copy, Debug, PartialEq, Eq)]
+#[derive(Clone, Copy, PartialEq, Eq)]
 pub struct InExprs;
 
 /// The tag of statements' places.
-#[derive(Clone, Copy, Debug, PartialEq, Eq)]
+#[derive(Clone, Copy, PartialEq, Eq)]
 pub struct InStmts;
 
 /// The place of an expression.
@@ -23,7 +23,7 @@ pub type ExprId = Id<InExprs>;
 pub type StmtId = Id<InStmts>;
 
 /// A literal of 1 to 128 bits: `4'd9`, and `4'sd9` where it is signed.
-#[derive(Clone, Copy, Debug, PartialEq, Eq)]
+#[derive(Clone, Copy, PartialEq, Eq)]
 pub struct Literal {
     pub bits: u8,
     pub signed: bool,
