@@ -1,8 +1,9 @@
 -- The trees at the places of arenas: each is made of those of its node's children, and stays while the arena grows.
 use Rattle.std.proofs.Common.{◌≡◌, ℕ, zero, suc, ◌<◌, Bool, true, List, [], ◌∷◌, ◌++◌, length, Option, Some, None, IfSome, IsTrue, slice_get, refl, ap, ◌∙◌, arith}
+use Rattle.std.proofs.lemmas.List.{length_push}
 use Rattle.lx_arena.specs.Lower.{EachLower}
 use Rattle.lx_arena.specs.Folds.{level, fold_within, fold_at, Same, IsLocal, Grows, Hangs, Added}
-use Rattle.lx_arena.proofs.Places.{get_front, get_last, one_longer, lower_at}
+use Rattle.lx_arena.proofs.Places.{get_front, get_last, lower_at}
 
 level_same : {N T : Type 0} (below : N → ℕ → Bool) (none : T) (node other : (ℕ → T) → N → T) (f g : ℕ → T) (k : ℕ) (o : Option N)
     → IsLocal below other → ((x : N) → o ≡ Some x → node f x ≡ other f x) → IfSome o (λ x. IsTrue (below x k)) → Same f g k → level none node f o ≡ level none other g o
@@ -59,7 +60,7 @@ grows_then tree a b c g h = record {
 -- a node at the end leaves what was there
 pub grows_by : {N T : Type 0} (below : N → ℕ → Bool) (none : T) (node : (ℕ → T) → N → T) → IsLocal below node → (old : List N) (x : N) → EachLower below (old ++ x ∷ []) → Grows (fold_at none node) old (old ++ x ∷ [])
 grows_by below none node local old x low = record {
-  longer = omega (arith, one_longer old x);
+  longer = omega (arith, length_push old x);
   nodes = λ k l. get_front old (x ∷ []) k l;
   trees = λ k l. fold_at-front below none node local old (old ++ x ∷ []) low (λ j i. get_front old (x ∷ []) j i) k l;
 }
@@ -71,7 +72,7 @@ added_by below none node local old x low h =
     let grows = grows_by below none node local old x low in
     record {
       grows = grows;
-      within = omega (arith, one_longer old x);
+      within = omega (arith, length_push old x);
       is = fold_at-is below none node local (old ++ x ∷ []) low (length old) x (get_last old x) ∙ local.same (fold_at none node (old ++ x ∷ [])) (fold_at none node old) (length old) x grows.trees h;
     }
 

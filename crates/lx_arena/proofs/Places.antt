@@ -2,6 +2,7 @@
 use Rattle.std.proofs.Common.{◌≡◌, ℕ, zero, suc, ◌+◌, ◌<◌, ◌≤◌, Bool, true, List, [], ◌∷◌, ◌++◌, length, Option, Some, None, IfSome, IsTrue, slice_get, refl, sym, subst, ◌∙◌, arith, inl, inr, length-append}
 use Rattle.std.proofs.lemmas.Bool.{cases_lt, and_parts}
 use Rattle.std.proofs.lemmas.Option.{slice_get_within}
+use Rattle.std.proofs.lemmas.List.{length_push}
 use Rattle.lx_arena.specs.Lower.{EachLower, all_at}
 
 -- the node at a place
@@ -19,8 +20,6 @@ pub get_last : {X : Type 0} (xs : List X) (y : X) → slice_get (xs ++ y ∷ [])
 get_last [] y = refl
 get_last (x ∷ xs) y = get_last xs y
 
-pub one_longer : {X : Type 0} (xs : List X) (y : X) → length (xs ++ y ∷ []) ≡ length xs + 1
-one_longer xs y = omega (arith, length-append xs (y ∷ []))
 
 -- a fact of each item, with an item more
 pub each_more : {X : Type 0} (P : X → Type 0) (xs : List X) (y : X) → ((k : ℕ) (x : X) → slice_get xs k ≡ Some x → P x) → P y → (k : ℕ) (x : X) → slice_get (xs ++ y ∷ []) k ≡ Some x → P x
@@ -57,7 +56,7 @@ at_place below xs y k x low h e =
       | inl p ↦ lower_at below xs low k x (sym (get_front xs (y ∷ []) k p) ∙ e)
       | inr p ↦
           let within = slice_get_within (xs ++ y ∷ []) k x e in
-          let one = one_longer xs y in
+          let one = length_push xs y in
           let q : length xs ≡ k = omega arith in
           let last : slice_get (xs ++ y ∷ []) k ≡ Some y = subst (λ (j : ℕ). slice_get (xs ++ y ∷ []) j ≡ Some y) q (get_last xs y) in
           let is : y ≡ x = cc in

@@ -5,7 +5,7 @@ use Rattle.std.proofs.lemmas.Nat.{pow_pos}
 use Rattle.lx_num.specs.Ints.{unsigned}
 use Rattle.lx_num.proofs.Ranges.{fits_pos}
 use Rattle.std.proofs.lemmas.Bool.{and_parts, and_from, or_cases, eqb-true}
-use Rattle.lx_arena.proofs.Places.{one_longer}
+use Rattle.std.proofs.lemmas.List.{length_push}
 use Rattle.lx_tables.specs.declared.operators.Op.TheVariants as op
 use Rattle.lx_circuit.specs.Places.{Place, At, Word, Kept, is_at}
 use Rattle.lx_circuit.specs.Terms as term
@@ -96,7 +96,7 @@ can_add_line d t e n l m = record { below = refl; stands = (l, m) }
 pub line_put : (a b c d : Design) (i e : ExprId) (t : TargetId) (x : SigId) (n k : ℕ) → IsInput a i.place → 1 ≤ x.0
     → ExprPut a b (expr.Unary op.Not i) e.place → TargetPut b c (target.Whole x) t.place → StmtPut c d (stmt.Assign t e n) k → LinePut a d k
 line_put a b c d i e t x n k input other p q r =
-    let there : e.place < length b.exprs = omega (arith, p.place, ap (λ (y : Design). length y.exprs) p.is, one_longer a.exprs (expr.Unary op.Not i)) in
+    let there : e.place < length b.exprs = omega (arith, p.place, ap (λ (y : Design). length y.exprs) p.is, length_push a.exprs (expr.Unary op.Not i)) in
     let value : design.term c e.place ≡ term.Unary op.Not (term.Signal 0) = q.stays.terms e.place there ∙ p.tree ∙ ap (term.Unary op.Not) input.tree in
     record {
       grew = record {
@@ -105,7 +105,7 @@ line_put a b c d i e t x n k input other p q r =
         stays = stays_then a b d p.stays (stays_then b c d q.stays r.stays);
       };
       line = record {
-        there = omega (arith, r.place, ap (λ (y : Design). length y.stmts) r.is, one_longer c.stmts (stmt.Assign t e n));
+        there = omega (arith, r.place, ap (λ (y : Design). length y.stmts) r.is, length_push c.stmts (stmt.Assign t e n));
         signal = x.0;
         other = other;
         tree = r.tree ∙ ap (λ (u : tree.Target). tree.Assign u (design.term c e.place)) q.tree ∙ ap (λ (u : Term). tree.Assign (tree.Whole x.0) u) value;
@@ -206,7 +206,7 @@ can_add_if d i ids n input h = record {
 pub if_put : (a b : Design) (i : ExprId) (ids : List StmtId) (n : ℕ) (k : StmtId) → IsInput a i.place → AreLines a ids → StmtPut a b (stmt.If (record { cond = i; body = ids } ∷ []) [] n) k.place → FanPut a b (k ∷ [])
 if_put a b i ids n k input h p =
     let node = stmt.If (record { cond = i; body = ids } ∷ []) [] n in
-    let there : k.place < length b.stmts = omega (arith, p.place, ap (λ (y : Design). length y.stmts) p.is, one_longer a.stmts node) in
+    let there : k.place < length b.stmts = omega (arith, p.place, ap (λ (y : Design). length y.stmts) p.is, length_push a.stmts node) in
     let body = block a ids in
     let is : design.stmt b k.place ≡ tree.If (tree.Branch (term.Signal 0) body tree.NoBranch) tree.Done = p.tree ∙ ap (λ (t : Term). tree.If (tree.Branch t body tree.NoBranch) tree.Done) input.tree in
     record {
@@ -225,7 +225,7 @@ fan_later a b c ids g h = record { grew = grew_then a b c g h.grew; fan = h.fan 
 
 pub input_put : (a b : Design) (x : SigId) (k : ℕ) → x.0 ≡ 0 → ExprPut a b (expr.Sig x) k → IsInput b k
 input_put a b x k first p = record {
-  there = omega (arith, p.place, ap (λ (y : Design). length y.exprs) p.is, one_longer a.exprs (expr.Sig x));
+  there = omega (arith, p.place, ap (λ (y : Design). length y.exprs) p.is, length_push a.exprs (expr.Sig x));
   tree = p.tree ∙ ap term.Signal first;
 }
 

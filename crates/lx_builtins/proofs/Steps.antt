@@ -3,6 +3,7 @@ use Rattle.std.proofs.Common.{◌≡◌, ◌∙◌, ℕ, ◌+◌, zero, suc, Boo
 use Rattle.std.specs.Prelude.{ℤ, pos, negsuc, ◌+ℤ◌, FitsSigned, int_lt, if◌then◌else◌}
 use Rattle.std.specs.Int.{w128}
 use Rattle.std.proofs.lemmas.Int.{ints}
+use Rattle.std.proofs.lemmas.Bool.{false_from_ne_true}
 use Rattle.lx_builtins.specs.Numbers.{comes_before, steps_from}
 
 steps_down : (n k : ℕ) (step a past : ℤ) → n ≡ k + 1 → steps_from n step a past ≡ (if comes_before step a past then a ∷ steps_from k step (a +ℤ step) past else [])
@@ -24,9 +25,6 @@ unfolding steps_from
 ended zero step a past e = refl
 ended (suc n) step a past e = rw e refl
 
-is_false : (b : Bool) → (b ≡ true → ⊥) → b ≡ false
-is_false true h = absurd (h refl)
-is_false false h = refl
 
 up_fits : (s : ℕ) (a past : ℤ) → FitsSigned w128 a → FitsSigned w128 past → int_lt (a +ℤ pos s) past ≡ true → FitsSigned w128 (a +ℤ pos s)
 up_fits s a past f g e = grind (arith, ints)
@@ -35,8 +33,8 @@ down_fits : (s : ℕ) (a past : ℤ) → FitsSigned w128 a → FitsSigned w128 p
 down_fits s a past f g e = grind (arith, ints)
 
 past_the_end : (step a past : ℤ) → FitsSigned w128 a → FitsSigned w128 past → (FitsSigned w128 (a +ℤ step) → ⊥) → comes_before step (a +ℤ step) past ≡ false
-past_the_end (pos s) a past f g n = is_false (int_lt (a +ℤ pos s) past) (λ e. n (up_fits s a past f g e))
-past_the_end (negsuc s) a past f g n = is_false (int_lt past (a +ℤ negsuc s)) (λ e. n (down_fits s a past f g e))
+past_the_end (pos s) a past f g n = false_from_ne_true (int_lt (a +ℤ pos s) past) (λ e. n (up_fits s a past f g e))
+past_the_end (negsuc s) a past f g n = false_from_ne_true (int_lt past (a +ℤ negsuc s)) (λ e. n (down_fits s a past f g e))
 
 pub overflown : (n : ℕ) (step a past : ℤ) → FitsSigned w128 a → FitsSigned w128 past → (FitsSigned w128 (a +ℤ step) → ⊥) → steps_from n step (a +ℤ step) past ≡ []
 overflown n step a past f g h = ended n step (a +ℤ step) past (past_the_end step a past f g h)

@@ -1,9 +1,10 @@
 -- A draft that grows by a node keeps what it keeps, and what stood in it stays.
 use Rattle.std.proofs.Common.{◌≡◌, ℕ, zero, suc, ◌<◌, ◌≤◌, List, [], ◌∷◌, ◌++◌, length, refl, sym, ap, subst, ◌∙◌, arith}
 use Rattle.std.specs.Prelude.{None, Some, map, slice_get, slice_index_or}
+use Rattle.std.proofs.lemmas.List.{length_push}
 use Rattle.lx_arena.specs.Folds.{Added}
 use Rattle.lx_arena.specs.Lower.{EachLower}
-use Rattle.lx_arena.proofs.Places.{each_more, get_front, one_longer, places_more}
+use Rattle.lx_arena.proofs.Places.{each_more, get_front, places_more}
 use Rattle.lx_circuit.specs.Circuit.{nothing}
 use Rattle.lx_circuit.specs.Shapes.{Shapes, shape_of, fault_of}
 use Rattle.lx_circuit.specs.Statements as tree
@@ -128,7 +129,7 @@ expr_keeps d x keep node low =
         exprs_lower = low;
         targets_lower = keep.arenas.targets_lower;
         stmts_lower = keep.arenas.stmts_lower;
-        shaped = places_more (λ k. fault_of (shapes d) (design.term (with_expr d x) k) ≡ None) (length d.exprs) (length (d.exprs ++ x ∷ [])) (one_longer d.exprs x)
+        shaped = places_more (λ k. fault_of (shapes d) (design.term (with_expr d x) k) ≡ None) (length d.exprs) (length (d.exprs ++ x ∷ [])) (length_push d.exprs x)
             (λ k l. ap (fault_of (shapes d)) (added.grows.trees k l) ∙ keep.arenas.shaped k l)
             (ap (fault_of (shapes d)) added.is ∙ node.shaped);
         operands = each_more TakesOperands d.exprs x keep.arenas.operands node.operands;
@@ -142,7 +143,7 @@ expr_keeps d x keep node low =
         target_bits = λ k l.
             let e : tree.target_bits (shapes d) (design.target (with_expr d x) k) ≡ tree.target_bits (shapes d) (design.target d k) = ap (tree.target_bits (shapes d)) (targets_over d x keep node low k) in
             omega (arith, e, keep.arenas.target_bits k l);
-        stmts = λ k s e. stmt_wider (length d.exprs) (length d.targets) (length (d.exprs ++ x ∷ [])) (length d.targets) s (omega (arith, one_longer d.exprs x)) (omega arith) (keep.arenas.stmts k s e);
+        stmts = λ k s e. stmt_wider (length d.exprs) (length d.targets) (length (d.exprs ++ x ∷ [])) (length d.targets) s (omega (arith, length_push d.exprs x)) (omega arith) (keep.arenas.stmts k s e);
       };
       signals = keep.signals;
       memories = keep.memories;
@@ -196,10 +197,10 @@ target_keeps d x keep node low =
         named = keep.arenas.named;
         indices = keep.arenas.indices;
         targets = each_more (TargetStands (shapes d) (length d.signals) d.exprs) d.targets x keep.arenas.targets node.stands;
-        target_bits = places_more (λ k. tree.target_bits (shapes d) (design.target (with_target d x) k) ≤ 127) (length d.targets) (length (d.targets ++ x ∷ [])) (one_longer d.targets x)
+        target_bits = places_more (λ k. tree.target_bits (shapes d) (design.target (with_target d x) k) ≤ 127) (length d.targets) (length (d.targets ++ x ∷ [])) (length_push d.targets x)
             (λ k l. subst (λ (t : tree.Target). tree.target_bits (shapes d) t ≤ 127) (sym (added.grows.trees k l)) (keep.arenas.target_bits k l))
             (subst (λ (t : tree.Target). tree.target_bits (shapes d) t ≤ 127) (sym added.is) node.bits);
-        stmts = λ k s e. stmt_wider (length d.exprs) (length d.targets) (length d.exprs) (length (d.targets ++ x ∷ [])) s (omega arith) (omega (arith, one_longer d.targets x)) (keep.arenas.stmts k s e);
+        stmts = λ k s e. stmt_wider (length d.exprs) (length d.targets) (length d.exprs) (length (d.targets ++ x ∷ [])) s (omega arith) (omega (arith, length_push d.targets x)) (keep.arenas.stmts k s e);
       };
       signals = keep.signals;
       memories = keep.memories;

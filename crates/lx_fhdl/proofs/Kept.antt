@@ -180,7 +180,7 @@ part_stands-is d x h = let p = and_parts _ _ h in record { domain = ltb-true x.d
 
 -- ---- signals and memories
 
-is_signal-is : (x : Signal) → is_signal x ≡ true → IsSignal x
+pub is_signal-is : (x : Signal) → is_signal x ≡ true → IsSignal x
 is_signal-is x h =
     let p = and_parts _ _ h in
     let bits = and_parts _ _ p.0 in
@@ -193,7 +193,7 @@ is_signal-is x h =
       path = q.1;
     }
 
-is_memory-is : (m : Memory) → is_memory m ≡ true → IsMemory m
+pub is_memory-is : (m : Memory) → is_memory m ≡ true → IsMemory m
 is_memory-is m h =
     let p = and_parts _ _ h in
     let sizes = and_parts _ _ p.0 in

@@ -3,10 +3,11 @@ use Rattle.std.proofs.Common.{◌≡◌, ℕ, zero, suc, pos, ◌-◌, ◌/◌, 
 use Rattle.std.specs.Prelude.{Option, None, Some, IfSome, IsSomeAnd, map, slice_get, slice_index_or}
 use Rattle.std.proofs.lemmas.Bool.{and_parts, eqb-true, ltb-true, or_cases}
 use Rattle.std.proofs.lemmas.Option.{slice_get_within}
+use Rattle.std.proofs.lemmas.List.{length_push}
 use Rattle.lx_num.specs.declared.Shape.{Shape}
 use Rattle.lx_num.specs.Fewest.{IsFewestBits}
 use Rattle.lx_arena.specs.Lower.{EachLower}
-use Rattle.lx_arena.proofs.Places.{by_places, get_front, lower_at, one_longer}
+use Rattle.lx_arena.proofs.Places.{by_places, get_front, lower_at}
 use Rattle.lx_circuit.specs.Places.{At, Values}
 use Rattle.lx_circuit.specs.Terms.{Term}
 use Rattle.lx_circuit.specs.Shapes.{Shapes, shape_of}
@@ -223,7 +224,7 @@ pub wider_signal : (d : Design) (x : Signal) → IsWider d (record d { signals =
 unfolding circuit_of
 wider_signal d x = record {
   arenas = record {
-    longer = omega (arith, one_longer d.signals x);
+    longer = omega (arith, length_push d.signals x);
     shapes = λ y l. ap (λ (m : circuit.Made). m.shape) (front made_of d.signals (x ∷ []) y circuit.nothing l);
     memories = λ k y h. h;
   };
@@ -239,7 +240,7 @@ wider_memory d x = record {
     shapes = λ y l. refl;
     memories = λ k y h. get_front d.memories (x ∷ []) k (slice_get_within d.memories k y h) ∙ h;
   };
-  memories_more = omega (arith, one_longer d.memories x);
+  memories_more = omega (arith, length_push d.memories x);
   memories = λ m l. front memory_of d.memories (x ∷ []) m circuit.no_memory l;
 }
 
@@ -253,7 +254,7 @@ pub begins_same : {T : Type 0} (xs : List T) → Begins xs xs
 begins_same xs = (omega arith, λ k l. refl)
 
 pub begins_more : {T : Type 0} (xs : List T) (y : T) → Begins xs (xs ++ y ∷ [])
-begins_more xs y = (omega (arith, one_longer xs y), λ k l. get_front xs (y ∷ []) k l)
+begins_more xs y = (omega (arith, length_push xs y), λ k l. get_front xs (y ∷ []) k l)
 
 pub parts_stay : (d e : Design) → IsWider d e → ArenasKeep (shapes d) (length d.signals) d.memories d.exprs d.targets d.stmts → Stays d e → Begins d.memories e.memories → Begins d.ports e.ports → PartsStay d e
 parts_stay d e w keep stays f g = record {

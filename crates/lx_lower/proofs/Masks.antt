@@ -2,12 +2,12 @@
 use Rattle.std.proofs.Common.{◌≡◌, ℕ, ◌+◌, ◌<◌, Bool, true, false, ◌&&◌, cond, List, [], ◌∷◌, ◌++◌, length, take, drop, get_or, refl, sym, ap, ◌∙◌, subst, arith, inl, inr, ne_eqb}
 use Rattle.std.specs.Prelude.{ℤ, Some, None, slice_get, IsTrue}
 use Rattle.std.proofs.lemmas.Bool.{and_parts, cases_lt}
-use Rattle.std.proofs.lemmas.List.{get_or_default, take_at}
+use Rattle.std.proofs.lemmas.List.{get_or_default, length_push, take_at}
 use Rattle.std.proofs.lemmas.Option.{slice_get_within}
 use Rattle.std.proofs.Math.Path.{fun_ext}
 use Rattle.lx_num.specs.declared.Shape.{Shape}
 use Rattle.lx_arena.specs.Lower.{EachLower}
-use Rattle.lx_arena.proofs.Places.{by_places, get_front, get_last, lower_at, node_there, one_longer}
+use Rattle.lx_arena.proofs.Places.{by_places, get_front, get_last, lower_at, node_there}
 use Rattle.lx_circuit.specs.Places.{Place, Values, At, Word, Kept}
 use Rattle.lx_circuit.specs.Shapes.{Shapes, constant_fault, shape_of, too_wide}
 use Rattle.lx_circuit.specs.declared.WidthFault.TheVariants.{BadWidth}
@@ -47,7 +47,7 @@ pub mask_more : (xs : List Expr) (free : List Bool) (hs : List Shape) (n : ℕ) 
 mask_more xs free hs n ys x h at =
     let node = mask_node (free_at free n) (shape_at hs n) x in
     record {
-      long = omega (arith, one_longer ys node, h.long);
+      long = omega (arith, length_push ys node, h.long);
       each = λ k z l e.
           elim (cases_lt k n) [
             | inl p ↦ get_front ys (node ∷ []) k (omega (arith, h.long)) ∙ h.each k z p e

@@ -5,7 +5,7 @@ use Rattle.std.specs.Int.{w128}
 use mir.Val.{to_z, of_z}
 use Rattle.std.proofs.lemmas.Bool.{le-leb, lt-leb, lt-ltb, ltb-true, and_parts, and_from}
 use Rattle.std.proofs.lemmas.Int.{to_z-of_z}
-use Rattle.std.proofs.lemmas.List.{length-map}
+use Rattle.std.proofs.lemmas.List.{length-map, length_push}
 use Rattle.lx_num.specs.declared.Shape.{Shape}
 use Rattle.lx_num.specs.Ints.{shape, wrapped}
 use Rattle.lx_tables.specs.declared.operators.Op.{Op}
@@ -39,7 +39,7 @@ use Rattle.lx_lower.specs.Plain.{CanAdd, ExprAdded, TermPut}
 use Rattle.lx_lower.specs.Sources.{CanPick, IsAmount, IsLowered, IsNext, IsRead, Read, moved_to, moved_node, place_at}
 use Rattle.lx_lower.specs.declared.operands.Operand.{Operand}
 use Rattle.lx_lower.proofs.Choices.{all_keep, items_keep}
-use Rattle.lx_arena.proofs.Places.{lower_at, one_longer, places_more}
+use Rattle.lx_arena.proofs.Places.{lower_at, places_more}
 use Rattle.lx_lower.proofs.Sound.{ExprsAreSound, ExprIsSound, all_wider, arenas, item_sound, node_keeps, put_is, same_shapes, sound, term_keeps}
 use Rattle.lx_width.proofs.Ends.{at_front, at_last}
 
@@ -429,7 +429,7 @@ pub more_lowered : (r : Read) (d e : Design) (x : Expr) (id : ExprId) → IsRead
     → IsLowered (record { design = r.design; shapes = r.shapes; places = r.places ++ id ∷ [] }) e
 more_lowered r d e x id read h at p =
     let k = length r.places in
-    let longer = one_longer r.places id in
+    let longer = length_push r.places id in
     let z = the_expr 0 in
     let here : place_at (r.places ++ id ∷ []) k ≡ id.place = ap (λ (i : ExprId). i.place) (at_last r.places id z) in
     let front = λ (j : ℕ) (l : j < k). let q : place_at (r.places ++ id ∷ []) j ≡ place_at r.places j = ap (λ (i : ExprId). i.place) (at_front r.places id j z l) in q in

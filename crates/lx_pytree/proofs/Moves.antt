@@ -4,6 +4,7 @@ use Rattle.std.proofs.lemmas.Bool.{lt-ltb, and_parts, and_from}
 use Rattle.std.proofs.lemmas.List.{reverse-append}
 use Rattle.std.specs.Global.{Vec}
 use Rattle.std.proofs.Math.Seq.{drop-nil}
+use Rattle.std.proofs.Math.ListN.{drop_of_length-le}
 use Rattle.lx_arena.specs.declared.Id.{Id}
 use Rattle.lx_pytree.specs.declared.tree.PyNodes.{PyNodes}
 use Rattle.lx_grammar.specs.declared.sign.Item.{Item}
@@ -156,11 +157,6 @@ pub take_none : (items : List Item) (m : Machine) (S : List Step) (s : Sign) (t 
 unfolding EndsIn upto
 take_none items m S s t d h = stuck (tree_at m.nodes) (reverse m.opens.items) m.current.spot (plants (tree_at m.nodes) m.current.parts) (step.Do (symbol.Token s) ∷ S) [] t (symbol.Token s ∷ upto S) refl (λ j rs g. no_token s (upto S) j (plants (tree_at m.nodes) m.current.parts) rs g) (subst (λ k. Ends (tree_at m.nodes) (reverse m.opens.items) m.current.spot (plants (tree_at m.nodes) m.current.parts) (step.Do (symbol.Token s) ∷ S) k t) d h)
 
-pub drop_past : {A : Type 0} (l : List A) (n : ℕ) → length l ≤ n → drop n l ≡ []
-drop_past [] n h = drop-nil n
-drop_past (x ∷ l) zero h = absurd (omega arith)
-drop_past (x ∷ l) (suc n) h = drop_past l n (omega arith)
-
 pub drop_at : (items : List Item) (n : ℕ) (d : Item) → n < length items → drop n items ≡ get_or items n d ∷ drop (n + 1) items
 drop_at items n d h = rw (add-one, drop-cons items n d) refl
 
@@ -307,7 +303,7 @@ close_whole items m new S id eu eo past hung sound =
     let g : ℕ → Tree = tree_at new.nodes in
     let ps : Parts = plants f m.current.parts in
     let ro : reverse m.opens.items ≡ [] = ap (λ v. reverse v) eo in
-    let d : drop m.at items ≡ [] = drop_past items m.at past in
+    let d : drop m.at items ≡ [] = drop_of_length-le items past in
     let node : g id.place ≡ wrap (label m.current.spot) ps = hung.is in
     record {
       trees = λ t. (λ h. whole_in f m.current.spot ps S t eu (subst (λ v. Ends f v m.current.spot ps S [] t) ro (subst (λ k. Ends f (reverse m.opens.items) m.current.spot ps S k t) d h)) ∙ sym node, λ e. subst (λ k. Ends f (reverse m.opens.items) m.current.spot ps S k t) (sym d) (subst (λ v. Ends f v m.current.spot ps S [] t) (sym ro) (whole_out f m.current.spot ps S t eu (e ∙ node))));

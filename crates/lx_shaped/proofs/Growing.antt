@@ -1,8 +1,8 @@
 -- The shapes and bits that are kept, while the draft grows.
 use Rattle.std.proofs.Common.{◌≡◌, false, ℕ, ◌+◌, ◌<◌, List, [], ◌∷◌, ◌++◌, length, refl, sym, ap, ◌∙◌, arith}
+use Rattle.std.proofs.lemmas.List.{length_push}
 use Rattle.lx_num.specs.declared.Shape.{Shape}
 use Rattle.lx_num.specs.Ints.{shape}
-use Rattle.lx_arena.proofs.Places.{one_longer}
 use Rattle.lx_circuit.specs.Shapes.{Shapes, shape_of}
 use Rattle.lx_circuit.specs.Statements.{target_bits}
 use Rattle.lx_fhdl.specs.Designs as design
@@ -54,11 +54,11 @@ stmt_shapes d x = refl
 pub sizes_expr : (old new : Design) (x : Expr) (id : ℕ) (hs more : List Shape) (bs : List ℕ) (a : Shape) → HasSizes old hs bs → ExprPut old new x id → more ≡ hs ++ a ∷ [] → a ≡ expr_shape x old → HasSizes new more bs
 sizes_expr old new x id hs more bs a h put m e =
     let same : shapes new ≡ shapes old = ap shapes put.is ∙ expr_shapes old x in
-    let longer : length new.exprs ≡ length old.exprs + 1 = ap (λ (d : Design). length d.exprs) put.is ∙ one_longer old.exprs x in
+    let longer : length new.exprs ≡ length old.exprs + 1 = ap (λ (d : Design). length d.exprs) put.is ∙ length_push old.exprs x in
     let last : design.term new (length old.exprs) ≡ node_term (design.term old) x = ap (design.term new) (sym put.place) ∙ put.tree in
     record {
       exprs = record {
-        long = ap length m ∙ one_longer hs a ∙ ap (λ (n : ℕ). n + 1) h.exprs.long ∙ sym longer;
+        long = ap length m ∙ length_push hs a ∙ ap (λ (n : ℕ). n + 1) h.exprs.long ∙ sym longer;
         each = λ k l.
             ap (λ (xs : List Shape). shape_at xs k) m
             ∙ one_more hs a (shape 0 false) (λ j. shape_of (shapes new) (design.term new j)) (length old.exprs) h.exprs.long
@@ -72,12 +72,12 @@ sizes_expr old new x id hs more bs a h put m e =
 pub sizes_target : (old new : Design) (x : Target) (id : ℕ) (hs : List Shape) (bs more : List ℕ) (a : ℕ) → HasSizes old hs bs → TargetPut old new x id → more ≡ bs ++ a ∷ [] → a ≡ target_width x old → HasSizes new hs more
 sizes_target old new x id hs bs more a h put m e =
     let same : shapes new ≡ shapes old = ap shapes put.is ∙ target_shapes old x in
-    let longer : length new.targets ≡ length old.targets + 1 = ap (λ (d : Design). length d.targets) put.is ∙ one_longer old.targets x in
+    let longer : length new.targets ≡ length old.targets + 1 = ap (λ (d : Design). length d.targets) put.is ∙ length_push old.targets x in
     let last : design.target new (length old.targets) ≡ node_target (design.term old) (design.target old) x = ap (design.target new) (sym put.place) ∙ put.tree in
     record {
       exprs = exprs_stay old new hs same put.stays (ap (λ (d : Design). length d.exprs) put.is) h.exprs;
       targets = record {
-        long = ap length m ∙ one_longer bs a ∙ ap (λ (n : ℕ). n + 1) h.targets.long ∙ sym longer;
+        long = ap length m ∙ length_push bs a ∙ ap (λ (n : ℕ). n + 1) h.targets.long ∙ sym longer;
         each = λ k l.
             ap (λ (xs : List ℕ). bits_at xs k) m
             ∙ one_more bs a 0 (λ j. target_bits (shapes new) (design.target new j)) (length old.targets) h.targets.long

@@ -3,7 +3,6 @@ pub mod Calls
 pub mod Growing
 pub mod Making
 pub mod Outcomes
-pub mod Owned
 pub mod Reading
 pub mod Rows
 pub mod Targets

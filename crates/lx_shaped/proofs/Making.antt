@@ -19,7 +19,7 @@ use Rattle.lx_shaped.specs.Making.{judged, tried, make_expr, make_memory, make_s
 use Rattle.lx_shaped.specs.declared.outcome.Outcome.{Outcome}
 use Rattle.lx_shaped.specs.declared.outcome.Outcome.TheVariants.{Made, Faulty, Misplaced}
 use Rattle.lx_shaped.proofs.Additions.{can_add_expr, can_add_target, can_add_stmt}
-use Rattle.lx_shaped.proofs.Owned.{is_memory-is, is_signal-is}
+use Rattle.lx_fhdl.proofs.Kept.{is_memory-is, is_signal-is}
 
 -- what was made passed the test, has no fault, and is what was added
 made_by : {T : Type 0} (b : Bool) (f : Option WidthFault) (m id : T) (new old d : Design) → (Made id, d) ≡ tried (judged b f m) new old → (b ≡ true) × (f ≡ None) × (id ≡ m) × (d ≡ new)

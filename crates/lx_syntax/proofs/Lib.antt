@@ -12,4 +12,3 @@ pub mod Arming
 pub mod Wording
 pub mod Simply
 pub mod Looping
-pub mod Answering

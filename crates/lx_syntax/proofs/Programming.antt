@@ -2,10 +2,11 @@
 use Rattle.std.proofs.Common.{ℕ, zero, suc, true, ◌≡◌, ◌<◌, ◌++◌, List, [], ◌∷◌, refl, ap, ◌∙◌, sym, subst, arith, map, length, Option, Some, None, slice_get, inl, inr}
 use Rattle.std.proofs.lemmas.Bool.{cases_lt, lt-ltb}
 use Rattle.std.proofs.lemmas.Option.{slice_get_within}
+use Rattle.std.proofs.lemmas.List.{length_push}
 use Rattle.lx_arena.specs.Folds.{Same}
 use Rattle.lx_arena.specs.Lower.{EachLower}
 use Rattle.lx_arena.specs.declared.Id.{Id}
-use Rattle.lx_arena.proofs.Places.{by_places, each_lower, get_front, get_last, lower_at, one_longer}
+use Rattle.lx_arena.proofs.Places.{by_places, each_lower, get_front, get_last, lower_at}
 use Rattle.lx_grammar.specs.Derives.{Tree}
 use Rattle.lx_pytree.specs.declared.tree.PyNodes.{PyNodes}
 use Rattle.lx_syntax.specs.declared.forms.ClassForm.{ClassForm}
@@ -44,7 +45,7 @@ nodes_more src t id old new node are at is e = subst (AreNodes src t) (sym e) (�
       | inl l ↦ are k x (sym (get_front old (node ∷ []) k l) ∙ p)
       | inr l ↦
           let within = slice_get_within (old ++ node ∷ []) k x p in
-          let one = one_longer old node in
+          let one = length_push old node in
           let q : length old ≡ k = omega arith in
           let last : slice_get (old ++ node ∷ []) k ≡ Some node = subst (λ (j : ℕ). slice_get (old ++ node ∷ []) j ≡ Some node) q (get_last old node) in
           let same : node ≡ x = cc in

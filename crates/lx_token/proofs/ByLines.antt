@@ -1,6 +1,7 @@
 -- One pass over the pieces gives the tokens of the lines.
 use Rattle.std.proofs.Common.{◌≡◌, ℕ, Bool, true, false, List, [], ◌∷◌, ◌++◌, ◌+◌, Option, None, Result, Ok, Err, refl, sym, ap, ◌∙◌, append_assoc, ◌≤◌, length, nat_lt, arith}
 use Rattle.std.proofs.lemmas.Bool.Decides.{nat_tests}
+use Rattle.std.proofs.lemmas.Bool.{le-ltb}
 use Rattle.lx_text.specs.declared.faults.Fault.{Fault}
 use Rattle.lx_text.specs.declared.faults.Refusal.{Refusal}
 use Rattle.lx_text.specs.declared.faults.Refusal.TheVariants as refusal
@@ -120,14 +121,12 @@ pub one_pass : (last : Token) (ps : List Piece) → go_on (take_all ps (machine 
 one_pass last ps =
     by_lines last ps [] [] 0 None false 1 ∙ with_tokens-none (whole_of last [] 1 0 None (first (lines_of ps)) (others (lines_of ps))) ∙ sym (all_lines-whole last [] 1 (lines_of ps))
 
-not_more : (n m : ℕ) → m ≤ n → nat_lt n m ≡ false
-not_more n m h = grind (arith, nat_tests)
 
 -- a text that was read to its end
 pub read_whole : (source : List ℕ) (start m : Lines) (last : Token) (ts : List Token) → length source ≤ max_bytes → start ≡ machine [] [] 0 None false 1 → last ≡ last_newline source → take_all (pieces_of source) start ≡ Ok m → ts ≡ finished last m → tokens_of source ≡ Ok ts
 unfolding tokens_of
 read_whole source start m last ts short begun end read e =
-    rw (not_more max_bytes (length source) short)
+    rw (le-ltb max_bytes (length source) short)
     (sym (one_pass (last_newline source) (pieces_of source))
     ∙ ap (λ r. go_on r (λ k. Ok (finished (last_newline source) k))) (ap (take_all (pieces_of source)) (sym begun) ∙ read)
     ∙ ap Ok (ap (λ t. finished t m) (sym end) ∙ sym e))
@@ -137,6 +136,6 @@ pub read_fault : (source : List ℕ) (start m : Lines) (stop : Refusal) → leng
 unfolding tokens_of
 read_fault source start m refusal.NoMemory short begun read = tt
 read_fault source start m (refusal.Fault f) short begun read =
-    rw (not_more max_bytes (length source) short)
+    rw (le-ltb max_bytes (length source) short)
     (sym (one_pass (last_newline source) (pieces_of source))
     ∙ ap (λ r. go_on r (λ k. Ok (finished (last_newline source) k))) (ap (take_all (pieces_of source)) (sym begun) ∙ read))

@@ -1,6 +1,6 @@
 use Rattle.std.proofs.Common.{◌≡◌, ◌+◌, ◌∙◌, ap, length, arith}
 use Rattle.std.specs.Prelude.{Some, slice_get}
-use Rattle.lx_arena.proofs.Places.{one_longer}
+use Rattle.std.proofs.lemmas.List.{length_push}
 use Rattle.lx_width.proofs.Ends.{item_there}
 use Rattle.lx_lower.specs.Sources.{IsRead}
 use Rattle.lx_lower.proofs.Moved.{none_lowered, more_lowered, next_node}
@@ -42,7 +42,7 @@ loop-node-preserved c =
     let most = ap length c.loop-node.invariant.items in
     let read : IsRead (record { design = c.args.design.now; shapes = c.as_slice-sizes.result.now; places = c.loop-node.places }) = rw c.as_slice-sizes.ensures (record { keeps = c.requires; sized = c.in_ok-shapes.ensures; most = omega (arith, c.loop-node.invariant.long) }) in
     let last : slice_get c.args.design.now.exprs (length c.loop-node.places) ≡ Some c.node-item.result = rw c.loop-node.invariant.long there in
-    let one : length c.push.new.self ≡ c.loop-node.node-index + 1 = ap length c.in_ok-push.ensures.ok ∙ one_longer _ _ ∙ ap (λ k. k + 1) c.loop-node.invariant.long in
+    let one : length c.push.new.self ≡ c.loop-node.node-index + 1 = ap length c.in_ok-push.ensures.ok ∙ length_push _ _ ∙ ap (λ k. k + 1) c.loop-node.invariant.long in
     record {
       items = c.loop-node.invariant.items;
       long = one;

@@ -1,7 +1,7 @@
 use Rattle.std.proofs.Common.{sym, ◌∙◌}
 use Rattle.lx_shaped.proofs.Calls.{memory_made, memory_misplaced}
 use Rattle.lx_shaped.proofs.Growing.{sizes_memory}
-use Rattle.lx_shaped.proofs.Owned.{is_memory-is}
+use Rattle.lx_fhdl.proofs.Kept.{is_memory-is}
 use Rattle.lx_shaped.proofs.shaped.Shaped.memory.Goals as goal
 
 pub returns-then-not-is_memory-clause-ok : goal.returns-then-not-is_memory-clause-ok

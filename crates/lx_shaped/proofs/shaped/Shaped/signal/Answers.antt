@@ -1,7 +1,7 @@
 use Rattle.std.proofs.Common.{sym, ◌∙◌}
 use Rattle.lx_shaped.proofs.Calls.{signal_made, signal_misplaced}
 use Rattle.lx_shaped.proofs.Growing.{sizes_signal}
-use Rattle.lx_shaped.proofs.Owned.{is_signal-is}
+use Rattle.lx_fhdl.proofs.Kept.{is_signal-is}
 use Rattle.lx_shaped.proofs.shaped.Shaped.signal.Goals as goal
 
 pub returns-then-not-is_signal-clause-ok : goal.returns-then-not-is_signal-clause-ok
