@@ -25,7 +25,6 @@ unfolding steps_from
 ended zero step a past e = refl
 ended (suc n) step a past e = rw e refl
 
-
 up_fits : (s : ℕ) (a past : ℤ) → FitsSigned w128 a → FitsSigned w128 past → int_lt (a +ℤ pos s) past ≡ true → FitsSigned w128 (a +ℤ pos s)
 up_fits s a past f g e = grind (arith, ints)
 

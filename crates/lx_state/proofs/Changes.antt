@@ -11,6 +11,5 @@ set_twice (z ∷ zs) (suc at) x y = ap (λ us. z ∷ us) (set_twice zs at x y)
 pub changed_there : {A : Type 0} (xs : List A) (at : ℕ) (f : A → A) (x : A) → slice_get xs at ≡ Some x → changed xs at f ≡ slice_set xs at (f x)
 changed_there xs at f x e = rw e refl
 
-
 pub not_changed : {A : Type 0} (xs : List A) (at : ℕ) (f : A → A) → length xs ≤ at → changed xs at f ≡ xs
 not_changed xs at f past = rw (slice_get_past xs at past) refl

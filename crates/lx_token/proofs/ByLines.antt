@@ -121,7 +121,6 @@ pub one_pass : (last : Token) (ps : List Piece) → go_on (take_all ps (machine 
 one_pass last ps =
     by_lines last ps [] [] 0 None false 1 ∙ with_tokens-none (whole_of last [] 1 0 None (first (lines_of ps)) (others (lines_of ps))) ∙ sym (all_lines-whole last [] 1 (lines_of ps))
 
-
 -- a text that was read to its end
 pub read_whole : (source : List ℕ) (start m : Lines) (last : Token) (ts : List Token) → length source ≤ max_bytes → start ≡ machine [] [] 0 None false 1 → last ≡ last_newline source → take_all (pieces_of source) start ≡ Ok m → ts ≡ finished last m → tokens_of source ≡ Ok ts
 unfolding tokens_of
