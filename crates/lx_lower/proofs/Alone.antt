@@ -14,13 +14,13 @@ use Rattle.lx_fhdl.specs.declared.stmts.Branch.{Branch}
 use Rattle.lx_fhdl.specs.declared.stmts.Stmt.{Stmt}
 use Rattle.lx_fhdl.specs.declared.stmts.Stmt.TheVariants.{Assign, If, Case}
 use Rattle.lx_fhdl.proofs.StmtTrees.{stmt_at-is}
-use Rattle.lx_lower.specs.Lines.{Assigned, branch_lines, first_line, has_branch, inside, lines, lines_at, lines_in, under}
-use Rattle.lx_lower.specs.Owned.{node_lines_of, tree_of}
-use Rattle.lx_lower.specs.Puts.{branches_of}
+use Rattle.lx_plain.specs.Lines.{Assigned, branch_lines, first_line, has_branch, inside, lines, lines_at, lines_in, under}
+use Rattle.lx_plain.specs.Owned.{node_lines_of, tree_of}
+use Rattle.lx_flat.specs.Puts.{branches_of}
 use Rattle.lx_circuit.specs.Terms.{Term}
 use Rattle.lx_lower.specs.Lists.{AreThere}
-use Rattle.lx_lower.proofs.Lining.{lines_at-is, lines_under}
-use Rattle.lx_lower.proofs.Puts.{target_others}
+use Rattle.lx_plain.proofs.Lining.{lines_at-is, lines_under}
+use Rattle.lx_plain.proofs.Puts.{target_others}
 
 -- ---- no line for another signal
 

@@ -10,9 +10,9 @@ use Rattle.lx_fhdl.specs.declared.design.Design.{Design}
 use Rattle.lx_fhdl.proofs.Designs.{signal_small}
 use Rattle.lx_lowering.proofs.Law.{flat_laws}
 use Rattle.lx_lowering.proofs.SplitFacts.{is_flat_block, split_for}
-use Rattle.lx_lower.specs.Lines.{Assigned}
+use Rattle.lx_plain.specs.Lines.{Assigned}
 use Rattle.lx_lower.specs.Lists.{AreForSignals, AreThere, ListsPut, split_of}
-use Rattle.lx_lower.specs.Puts.{flat_of}
+use Rattle.lx_flat.specs.Puts.{flat_of}
 use Rattle.lx_lower.proofs.FromKeeps.{design_block, sync_below}
 
 -- flat statements are flat

@@ -19,9 +19,9 @@ use Rattle.lx_fhdl.specs.Drafts.{DraftKeeps}
 use Rattle.lx_fhdl.specs.Stmts.{node_stmt}
 use Rattle.lx_fhdl.specs.declared.stmts.Stmt.{Stmt}
 use Rattle.lx_fhdl.proofs.StmtTrees.{stmt_at-is}
-use Rattle.lx_lower.specs.Lines.{Assigned, alone, first_line, folded_lines, lines_at, lines_in}
-use Rattle.lx_lower.specs.Owned.{node_lines_of}
-use Rattle.lx_lower.proofs.Lining.{lines_at-is}
+use Rattle.lx_plain.specs.Lines.{Assigned, alone, first_line, folded_lines, lines_at, lines_in}
+use Rattle.lx_plain.specs.Owned.{node_lines_of}
+use Rattle.lx_plain.proofs.Lining.{lines_at-is}
 use Rattle.lx_fhdl.specs.Designs.{circuit_of, made_of, shapes}
 use Rattle.lx_fhdl.specs.Lowered.{is_done, is_for, are_for}
 use Rattle.lx_fhdl.specs.Stmts.{block_at}
@@ -30,7 +30,7 @@ use Rattle.lx_fhdl.specs.declared.design.Signal.{Signal}
 use Rattle.lx_lowering.specs.Constants.{block_reads_none, reads_none, zeros, constant_of, or_constant, folded}
 use Rattle.lx_lowering.specs.Flat.{one}
 use Rattle.lx_lower.specs.Fixed.{AreForFree, constant_in, folded_in, reset_of}
-use Rattle.lx_lower.proofs.Items.{next_item}
+use Rattle.lx_flat.proofs.Items.{next_item}
 
 -- ---- signals
 
@@ -38,10 +38,6 @@ made_at : (ss : List Signal) (x : ℕ) (s : Signal) → slice_get ss x ≡ Some 
 made_at [] x s e = absurd (cc)
 made_at (t ∷ ss) zero s e = let same : t ≡ s = cc in ap made_of (sym same)
 made_at (t ∷ ss) (suc x) s e = made_at ss x s e
-
-pub signal_shape : (d : Design) (x : ℕ) (s : Signal) → slice_get d.signals x ≡ Some s → s.shape ≡ shapes d x
-unfolding circuit_of
-signal_shape d x s e = ap (λ (m : Made). m.shape) (made_at d.signals x s e)
 
 pub signal_reset : (d : Design) (x : ℕ) (s : Signal) → slice_get d.signals x ≡ Some s → s.reset ≡ reset_of d x
 unfolding circuit_of

@@ -26,7 +26,7 @@ use Rattle.lx_fhdl.proofs.Designs.{keeps_shapes, signal_small}
 use Rattle.lx_fhdl.proofs.StmtTrees.{target_at-is, stmt_at-is}
 use Rattle.lx_lowering.specs.Lowering.{TermKeeps, TargetKeeps, TargetsKeep, some_targets, StmtKeeps, BranchesKeep, ArmsKeep, BlockKeeps, CanBeLowered}
 use Rattle.lx_lower.proofs.Listing.{below_both}
-use Rattle.lx_lower.proofs.Sound.{arenas, sound, term_keeps}
+use Rattle.lx_plain.proofs.Sound.{arenas, sound, term_keeps}
 
 -- ---- targets
 

@@ -28,16 +28,16 @@ use Rattle.lx_lowering.specs.Flat.{append, one}
 use Rattle.lx_lowering.specs.Lowering.{lists_from}
 use Rattle.lx_lowering.specs.Split.{split_block}
 use Rattle.lx_lower.specs.Fixed.{chosen, chosen_lines, constant_in, folded_in, reset_of}
-use Rattle.lx_lower.specs.Lines.{Assigned, alone, folded_lines, lines, lines_at, lines_in, target_lines}
+use Rattle.lx_plain.specs.Lines.{Assigned, alone, folded_lines, lines, lines_at, lines_in, target_lines}
 use Rattle.lx_lower.specs.Lists.{AreBySignal, AreFolds, AreForSignals, AreThere, IsFor, ListPut, ListsPut, OnePut, PartsPut, all_lists, fold_at, fold_lines, folded_lines_of, folded_lists, folded_of, list_at, part_at, split_of, sync_lines, sync_lists}
-use Rattle.lx_lower.specs.Owned.{Put, ids_of}
-use Rattle.lx_lower.specs.Plain.{Grows, StmtAdded, TargetAdded, TermPut}
-use Rattle.lx_lower.specs.Puts.{lines_for}
+use Rattle.lx_plain.specs.Owned.{Put, ids_of}
+use Rattle.lx_plain.specs.Plain.{Grows, StmtAdded, TargetAdded, TermPut}
+use Rattle.lx_flat.specs.Puts.{lines_for}
 use Rattle.lx_lower.specs.declared.fold.Folded.{Folded}
-use Rattle.lx_lower.specs.declared.owned.Own.{Own}
+use Rattle.lx_plain.specs.declared.owned.Own.{Own}
 use Rattle.lx_lower.proofs.Alone.{block_others}
-use Rattle.lx_lower.proofs.Puts.{as_many, block_append, block_kept, ids_append, ids_there, lines_append, lines_kept}
-use Rattle.lx_lower.proofs.Sound.{grows_same, grows_then, same_shapes}
+use Rattle.lx_plain.proofs.Puts.{as_many, block_append, block_kept, ids_append, ids_there, lines_append, lines_kept}
+use Rattle.lx_plain.proofs.Sound.{grows_same, grows_then, same_shapes}
 
 -- ---- statements by signals
 

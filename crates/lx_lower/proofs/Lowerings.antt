@@ -26,14 +26,14 @@ use Rattle.lx_lowering.proofs.Law.{lowering}
 use Rattle.lx_lowering.proofs.ListFacts.{lists_plain}
 use Rattle.lx_lowering.proofs.Lowering.{sync_depth, comb_depth}
 use Rattle.lx_lowering.proofs.Appends.{depth_append}
-use Rattle.lx_lower.specs.Lines.{lines, lines_at}
+use Rattle.lx_plain.specs.Lines.{lines, lines_at}
 use Rattle.lx_lower.specs.Lists.{AreParts, AreThere, ListPut, PartsPut, folded_lines_of, folded_of, lists_of, part_at, split_of, sync_lines, sync_lists}
 use Rattle.lx_lower.specs.Lowers.{IsLoweringOf}
-use Rattle.lx_lower.specs.Plain as plain
+use Rattle.lx_plain.specs.Plain as plain
 use Rattle.lx_lower.proofs.BySignal.{split_is_alone, sync_there}
 use Rattle.lx_lower.proofs.FromKeeps.{can_be_lowered}
 use Rattle.lx_lower.proofs.Listing.{there_kept}
-use Rattle.lx_lower.proofs.Puts.{as_many, block_append, block_kept, lines_kept}
+use Rattle.lx_plain.proofs.Puts.{as_many, block_append, block_kept, lines_kept}
 
 -- what lowering made: arenas, and lists of statements in them
 record Lists : Type 0 where

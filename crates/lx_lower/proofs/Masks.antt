@@ -28,11 +28,11 @@ use Rattle.lx_fhdl.proofs.Meanings.{values_stand}
 use Rattle.lx_fhdl.proofs.Trees.{term_at-is}
 use Rattle.lx_lowering.specs.Constants.{names_none, zeros}
 use Rattle.lx_lower.specs.Fixed.{AreFree, AreValued, IsFixed, IsMask, all_free, free_at, mask_node, node_free}
-use Rattle.lx_lower.proofs.Conditions.{narrow}
+use Rattle.lx_plain.proofs.Conditions.{narrow}
 use Rattle.lx_lower.proofs.Freedom.{Tells, node_tells}
 use Rattle.lx_width.specs.Shapes.{AreShapes}
 use Rattle.lx_width.proofs.Shaped.{children, node_sound, shape_is}
-use Rattle.lx_lower.proofs.Sound.{shape_small, sound}
+use Rattle.lx_plain.proofs.Sound.{shape_small, sound}
 
 -- ---- the arena that is filled
 

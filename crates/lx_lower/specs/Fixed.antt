@@ -16,7 +16,7 @@ use Rattle.lx_fhdl.specs.declared.exprs.Expr.TheVariants.{Const, Sig, Unary, Bin
 use Rattle.lx_lowering.specs.Constants.{block_reads_none, names_none, reads_none, zeros, folded}
 use Rattle.lx_lowering.specs.Flat.{one}
 use Rattle.lx_lower.specs.declared.fixed.Fixed.{Fixed}
-use Rattle.lx_lower.specs.Lines.{Assigned, alone}
+use Rattle.lx_plain.specs.Lines.{Assigned, alone}
 use Rattle.lx_lower.specs.declared.fold.Folded.{Folded}
 
 -- whether the expression at a place is free

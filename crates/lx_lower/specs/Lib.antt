@@ -1,13 +1,3 @@
-pub mod Exprs
 pub mod Fixed
-pub mod Keys
-pub mod Lines
 pub mod Lists
 pub mod Lowers
-pub mod Operands
-pub mod Owned
-pub mod Plain
-pub mod Puts
-pub mod Ready
-pub mod Sources
-pub mod Tests

@@ -11,12 +11,12 @@ use Rattle.lx_lowering.specs.Constants.{block_reads_none}
 use Rattle.lx_lowering.specs.Lowering.{lists_from}
 use Rattle.lx_lowering.specs.Split.{split_block}
 use Rattle.lx_lower.specs.Fixed.{chosen, chosen_lines, folded_in}
-use Rattle.lx_lower.specs.Lines.{Assigned, folded_lines, lines}
+use Rattle.lx_plain.specs.Lines.{Assigned, folded_lines, lines}
 use Rattle.lx_lower.specs.declared.fold.Folded.{Folded}
-use Rattle.lx_lower.specs.Owned.{ids_of}
-use Rattle.lx_lower.specs.Plain.{Grows}
-use Rattle.lx_lower.specs.Puts.{flat_of}
-use Rattle.lx_lower.specs.declared.owned.Own.{Own}
+use Rattle.lx_plain.specs.Owned.{ids_of}
+use Rattle.lx_plain.specs.Plain.{Grows}
+use Rattle.lx_flat.specs.Puts.{flat_of}
+use Rattle.lx_plain.specs.declared.owned.Own.{Own}
 
 -- statements of a design
 abbrev pub AreThere : Design → List StmtId → Type 0

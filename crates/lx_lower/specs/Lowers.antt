@@ -7,7 +7,7 @@ use Rattle.lx_fhdl.specs.Lowered.{IsLowered}
 use Rattle.lx_fhdl.specs.declared.design.Design.{Design}
 use Rattle.lx_lowering.specs.Lowering as lowering
 use Rattle.lx_lowering.specs.Lowering.{Lowers}
-use Rattle.lx_lower.specs.Lines.{lines}
+use Rattle.lx_plain.specs.Lines.{lines}
 use Rattle.lx_lower.specs.Lists.{folded_lines_of}
 
 -- Each list assigns a signal from the same lines in the same order, and under conditions from the same lines. What assigns

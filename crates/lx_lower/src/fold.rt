@@ -9,8 +9,8 @@ ghost use Rattle.lx_fhdl.specs.Lowered.{are_for, is_for, is_plain_target};
 ghost use Rattle.lx_fhdl.specs.Stmts.{branches_at};
 ghost use Rattle.lx_lowering.specs.Constants.{block_reads_none, branches_read_none, reads_none, zeros};
 ghost use Rattle.lx_lower.specs.Fixed.{IsForFree, AreForFree, chosen, chosen_lines, folded_in};
-ghost use Rattle.lx_lower.specs.Lines.{first_line, folded_lines, lines, lines_at};
-ghost use Rattle.lx_lower.specs.Ready.{LowerBranches, LowerStmts};
+ghost use Rattle.lx_plain.specs.Lines.{first_line, folded_lines, lines, lines_at};
+ghost use Rattle.lx_flat.specs.Ready.{LowerBranches, LowerStmts};
 
 use crate::known::Known;
 use lx_fhdl::{Branch, SigId, Stmt, StmtId, Target, TargetId};

@@ -8,8 +8,8 @@ ghost use Rattle.lx_fhdl.specs.Keeping.{StmtStands, TargetStands};
 ghost use Rattle.lx_fhdl.specs.Stmts.{node_stmt, node_target};
 ghost use Rattle.lx_lowering.specs.Constants.{names_none, zeros};
 ghost use Rattle.lx_lower.specs.Fixed.{IsFixed, IsNarrow, reset_of};
-ghost use Rattle.lx_lower.specs.Lines.{lines_at};
-ghost use Rattle.lx_lower.specs.Owned.{node_lines_of};
+ghost use Rattle.lx_plain.specs.Lines.{lines_at};
+ghost use Rattle.lx_plain.specs.Owned.{node_lines_of};
 
 use crate::fixed::{Fixed, fixed_exprs};
 use lx_fhdl::{Draft, ExprId, SigId, Signal, Stmt, StmtId, Target, TargetId};

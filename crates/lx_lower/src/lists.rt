@@ -4,17 +4,17 @@ ghost use Rattle.std.specs.Prelude.{◌≡◌, ◌++◌, ◌∷◌, ◌<◌, [],
 ghost use Rattle.std.specs.List.{flat_map};
 ghost use Rattle.lx_fhdl.specs.Designs.{block};
 ghost use Rattle.lx_lower.specs.Fixed.{chosen, chosen_lines, constant_in};
-ghost use Rattle.lx_lower.specs.Lines.{alone, lines};
+ghost use Rattle.lx_plain.specs.Lines.{alone, lines};
 ghost use Rattle.lx_lower.specs.Lists.{AreBySignal, AreFolds, AreForSignals, IsFor, ListsPut, OnePut, fold_lines, folded_lists};
-ghost use Rattle.lx_lower.specs.Owned.{all_signals};
+ghost use Rattle.lx_plain.specs.Owned.{all_signals};
 
-use crate::conds::push_constant;
 use crate::fold::{Folded, fold_of};
-use crate::groups::copied_ids;
 use crate::known::Known;
-use crate::owned::Own;
-use crate::plain::PlainDraft;
 use lx_fhdl::{Draft, SigId, Stmt, StmtId, Target};
+use lx_plain::conds::push_constant;
+use lx_plain::groups::copied_ids;
+use lx_plain::owned::Own;
+use lx_plain::plain::PlainDraft;
 use lx_text::{List, NoMemory};
 use std::alloc::Global;
 

@@ -3,14 +3,14 @@
 ghost use Rattle.std.specs.Prelude.{◌≡◌, [], length, IfOk};
 ghost use Rattle.lx_fhdl.specs.Designs.{stmts_of};
 ghost use Rattle.lx_lower.specs.Lists.{AreThere, ListPut, ListsPut, PartsPut, folded_lines_of, folded_of, lists_of, split_of};
-ghost use Rattle.lx_lower.specs.Puts.{lines_for};
-ghost use Rattle.lx_lower.specs.Ready.{IsReady};
+ghost use Rattle.lx_flat.specs.Puts.{lines_for};
+ghost use Rattle.lx_flat.specs.Ready.{IsReady};
 
-use crate::flat::flatten;
 use crate::lists::{add_all, by_signal, fold_lists, folds, joined};
-use crate::plain::PlainDraft;
-use crate::source::Source;
 use lx_fhdl::{StmtId, SyncPart};
+use lx_flat::flat::flatten;
+use lx_plain::plain::PlainDraft;
+use lx_plain::source::Source;
 use lx_text::{List, NoMemory};
 use std::alloc::Global;
 

@@ -4,11 +4,11 @@ ghost use Rattle.std.specs.Prelude.{IfOk};
 ghost use Rattle.lx_fhdl.specs.Keeping.{Keeps};
 ghost use Rattle.lx_lower.specs.Lowers.{IsLoweringOf};
 
-use crate::copies::{copied_accesses, copied_domains, copied_ports};
-use crate::exprs::{LoweredExprs, lower_exprs};
 use crate::parts::{lower_comb, lower_sync};
-use crate::source::Source;
+use lx_exprs::copies::{copied_accesses, copied_domains, copied_ports};
+use lx_exprs::exprs::{LoweredExprs, lower_exprs};
 use lx_fhdl::Design;
+use lx_plain::source::Source;
 use lx_text::NoMemory;
 use std::alloc::Global;
 

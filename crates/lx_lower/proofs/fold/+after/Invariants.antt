@@ -3,7 +3,7 @@ use Rattle.lx_circuit.specs.Statements.{after_pieces, taken_block}
 use Rattle.lx_fhdl.specs.Designs.{block, shapes}
 use Rattle.lx_lowering.specs.Constants.{zeros}
 use Rattle.lx_lower.specs.Fixed.{AreForFree}
-use Rattle.lx_lower.specs.Ready.{LowerStmts}
+use Rattle.lx_flat.specs.Ready.{LowerStmts}
 use Rattle.lx_lower.proofs.fold.+after.Given as goal
 
 abbrev pub decreases-after_stmt : goal.decreases-after_stmt

@@ -2,7 +2,7 @@ use Rattle.std.proofs.Common.{◌≡◌, ◌+◌, ◌*◌, drop}
 use Rattle.lx_fhdl.specs.Designs.{block, stmt, term}
 use Rattle.lx_fhdl.specs.Stmts.{branches_at}
 use Rattle.lx_lowering.specs.Constants.{block_reads_none, branches_read_none}
-use Rattle.lx_lower.specs.Ready.{LowerBranches, LowerStmts}
+use Rattle.lx_flat.specs.Ready.{LowerBranches, LowerStmts}
 use Rattle.lx_lower.proofs.fold.+reads.Given as goal
 
 abbrev pub decreases-reads_none : goal.decreases-reads_none

@@ -1,6 +1,6 @@
 use Rattle.std.proofs.Common.{refl, arith}
-use Rattle.lx_lower.specs.declared.owned.Own.{Own}
-use Rattle.lx_lower.proofs.Grouping.{signal_there}
+use Rattle.lx_plain.specs.declared.owned.Own.{Own}
+use Rattle.lx_plain.proofs.Grouping.{signal_there}
 use Rattle.lx_lower.proofs.Listing.{all_by_signal, more_by_signal}
 use Rattle.lx_lower.proofs.lists.by_signal.Goals as goal
 

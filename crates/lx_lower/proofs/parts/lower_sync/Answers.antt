@@ -2,11 +2,11 @@ use Rattle.std.proofs.Common.{◌≡◌, [], ap, rules}
 use Rattle.std.specs.Prelude.{List}
 use Rattle.lx_fhdl.specs.Below.{StmtId}
 use Rattle.lx_fhdl.specs.Designs.{stmts_of}
-use Rattle.lx_lower.specs.Lines.{lines}
+use Rattle.lx_plain.specs.Lines.{lines}
 use Rattle.lx_lower.specs.Lists.{lists_of}
 use Rattle.lx_lower.proofs.BySignal.{sync_there}
 use Rattle.lx_lower.proofs.Listing.{list_is, parts_more, parts_none}
-use Rattle.lx_lower.proofs.Pieces.{ready_for}
+use Rattle.lx_flat.proofs.Pieces.{ready_for}
 use Rattle.lx_lower.proofs.parts.lower_sync.Goals as goal
 
 pub loop-domain-init : goal.loop-domain-init

@@ -3,9 +3,9 @@ use Rattle.std.specs.Prelude.{ℕ, IsTrue}
 use Rattle.std.proofs.lemmas.Result.{IfOk-weaker}
 use Rattle.lx_fhdl.specs.declared.design.Design.{Design}
 use Rattle.lx_lower.specs.Lists.{AreBySignal}
-use Rattle.lx_lower.specs.Owned.{all_signals}
+use Rattle.lx_plain.specs.Owned.{all_signals}
 use Rattle.lx_lower.proofs.BySignal.{split_is_alone}
-use Rattle.lx_lower.proofs.Grouping.{signals_owned}
+use Rattle.lx_plain.proofs.Grouping.{signals_owned}
 use Rattle.lx_lower.proofs.Listing.{split_put}
 use Rattle.lx_lower.proofs.parts.split.Goals as goal
 

@@ -1,8 +1,8 @@
 use Rattle.std.proofs.Common.{◌∙◌, [], rules, arith}
-use Rattle.lx_lower.specs.Exprs.{read}
-use Rattle.lx_lower.specs.Ready.{IsReady}
+use Rattle.lx_exprs.specs.Exprs.{read}
+use Rattle.lx_flat.specs.Ready.{IsReady}
 use Rattle.lx_lower.proofs.Lowerings.{finished_as, is_lowering}
-use Rattle.lx_lower.proofs.Pieces.{ready_for}
+use Rattle.lx_flat.proofs.Pieces.{ready_for}
 use Rattle.lx_lower.proofs.whole.lower.Goals as goal
 
 pub new-source-requires : goal.new-source-requires

@@ -1,0 +1,4 @@
+pub mod Arms
+pub mod Flats
+pub mod Items
+pub mod Pieces

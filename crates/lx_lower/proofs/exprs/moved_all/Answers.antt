@@ -1,6 +1,0 @@
-use Rattle.std.proofs.Common.{length}
-use Rattle.lx_width.proofs.Widths.{part_there}
-use Rattle.lx_lower.proofs.exprs.moved_all.Goals as goal
-
-pub moved-requires : goal.moved-requires
-moved-requires c = part_there (length c.args.places.now) c.args.ids.now c.loop-id.id-index _ c.requires c.loop-id-test.true

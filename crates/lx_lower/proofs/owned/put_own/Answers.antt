@@ -1,5 +1,0 @@
-use Rattle.lx_lower.proofs.Puts.{put_one}
-use Rattle.lx_lower.proofs.owned.put_own.Goals as goal
-
-pub returns : goal.returns
-returns c = rw c.in_ok-push.ensures.ok (put_one _ _ _ _ _ _ c.requires.out c.requires.signal c.in_ok-stmt.ensures)
