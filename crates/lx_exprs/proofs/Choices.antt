@@ -1,6 +1,7 @@
 -- Choices of an item by an index: the chain from an item on, and that it has no fault.
 use Rattle.std.proofs.Common.{◌≡◌, ℕ, zero, suc, ◌+◌, ◌<◌, ◌≤◌, List, [], ◌∷◌, length, get_or, drop, refl, sym, ap, subst, ◌∙◌, arith, nat_lt, ◌&&◌}
 use Rattle.std.specs.Prelude.{None, IsTrue}
+use Rattle.std.proofs.lemmas.List.{drop_all}
 use Rattle.lx_num.specs.declared.Shape.{Shape}
 use Rattle.lx_circuit.specs.Terms.{Term, Mux, MoreTerms}
 use Rattle.std.proofs.lemmas.Bool.{lt-ltb, and_from}
@@ -12,7 +13,7 @@ use Rattle.lx_fhdl.specs.Trees.{terms_at, term_at}
 use Rattle.lx_fhdl.specs.declared.exprs.Expr.{Expr}
 use Rattle.lx_fhdl.proofs.Arena.{each_place}
 use Rattle.lx_fhdl.proofs.Operators.{none_right, not_wide}
-use Rattle.lx_fhdl.proofs.Parts.{each_at, next_part}
+use Rattle.lx_fhdl.proofs.Parts.{next_part}
 use Rattle.lx_lowering.specs.Lowering.{TermKeeps}
 use Rattle.lx_lowering.specs.Terms.{is_item, pick_from}
 use Rattle.lx_lowering.proofs.Picks.{others_bits, pick_from_keeps}
@@ -24,6 +25,7 @@ use Rattle.lx_fhdl.specs.declared.design.Memory.{Memory}
 use Rattle.lx_plain.specs.Plain.{CanAdd, TermPut}
 use Rattle.lx_plain.specs.Sources.{CanChoose, CanPick}
 use Rattle.lx_plain.proofs.Sound.{ExprsAreSound, grows_then, put_same, put_after, put_is, same_shapes, sound, term_keeps, term_kept}
+use Rattle.lx_width.proofs.Widths.{part_there}
 
 -- ---- the chain
 
@@ -36,18 +38,12 @@ some_left [] k h = absurd (omega arith)
 some_left (x ∷ xs) zero h = omega arith
 some_left (x ∷ xs) (suc k) h = some_left xs k (omega arith)
 
-none_left_over : {X : Type 0} (xs : List X) (k : ℕ) → length xs ≤ k → drop k xs ≡ []
-none_left_over [] zero h = refl
-none_left_over [] (suc k) h = refl
-none_left_over (x ∷ xs) zero h = absurd (omega arith)
-none_left_over (x ∷ xs) (suc k) h = none_left_over xs k (omega arith)
-
 -- the last item
 pub choices_last : (s : Shapes) (t : ℕ → Term) (items : List ExprId) (k : ℕ) (d : ExprId) (i : Term) → k + 1 ≡ length items → pick_from s k (terms_at t (drop k items)) i ≡ t (get_or items k d).place
 choices_last s t items k d i h =
     let l : k < length items = omega arith in
     ap (λ (ys : List ExprId). pick_from s k (terms_at t ys) i) (next_part items k d l)
-    ∙ ap (λ (ys : List ExprId). pick_from s k (MoreTerms (t (get_or items k d).place) (terms_at t ys)) i) (none_left_over items (k + 1) (omega arith))
+    ∙ ap (λ (ys : List ExprId). pick_from s k (MoreTerms (t (get_or items k d).place) (terms_at t ys)) i) (drop_all (k + 1) items (omega arith))
 
 -- one more item before the others
 pub choices_step : (s : Shapes) (t : ℕ → Term) (items : List ExprId) (k : ℕ) (d : ExprId) (i : Term) → k + 1 < length items
@@ -101,11 +97,8 @@ choices_keep s n ms xs items index k a d keep h l e g =
 abbrev pub chain : Design → List ExprId → ℕ → ℕ → Term
 chain d items index k = pick_from (shapes d) k (terms_at (term d) (drop k items)) (term d index)
 
-pub item_within : (n : ℕ) (items : List ExprId) (k : ℕ) (d : ExprId) → IsTrue (all_below n items) → k < length items → (get_or items k d).place < n
-item_within n items k d h l = each_at (λ j. j < n) items k d (each_place (λ j. j < n) n items (λ j i. i) (search h)) l
-
 pub chain_last : (x : Design) (items : List ExprId) (index k : ℕ) (d : ExprId) → IsTrue (all_below (length x.exprs) items) → k + 1 ≡ length items → TermPut x x (get_or items k d).place (chain x items index k)
-chain_last x items index k d h e = put_same x (get_or items k d).place (chain x items index k) (item_within (length x.exprs) items k d h (omega arith)) (sym (choices_last (shapes x) (term x) items k d (term x index) e))
+chain_last x items index k d h e = put_same x (get_or items k d).place (chain x items index k) (part_there (length x.exprs) items k d h (omega arith)) (sym (choices_last (shapes x) (term x) items k d (term x index) e))
 
 pub chain_choose : (x y : Design) (items : List ExprId) (index k item : ℕ) (chosen : ExprId) (a : Shape) (d : ExprId) → DraftKeeps x → CanPick x items a → index < length x.exprs
     → k + 1 ≡ item → item < length items → TermPut x y chosen.place (chain x items index item) → CanChoose y (get_or items k d) chosen
@@ -114,7 +107,7 @@ chain_choose x y items index k item chosen a d keep can l q g p =
     let t = term x in
     let yes = (get_or items k d).place in
     let more : k + 1 < length items = omega arith in
-    let own = item_within (length x.exprs) items k d can.there (omega arith) in
+    let own = part_there (length x.exprs) items k d can.there (omega arith) in
     let n = length x.signals in
     let whole = subst (λ (u : Term). TermKeeps s n u) (choices_step s t items k d (t index) more) (choices_keep s n x.memories x.exprs items index k a d (sound x keep) can.there l can.sound (omega arith)) in
     record {
@@ -139,7 +132,7 @@ chain_more x y z items index k item chosen id a d can l q g p r =
     (put_is y z id (Mux (is_item (shapes y) (u index) k) (u yes) (u chosen)) (chain x items index k) r
     (ap (λ (v : Shapes). Mux (is_item v (u index) k) (u yes) (u chosen)) (same_shapes x y p.grows.signals)
     ∙ ap (λ (v : Term). Mux (is_item s v k) (u yes) (u chosen)) (term_kept index p.grows l)
-    ∙ ap (λ (v : Term). Mux (is_item s (t index) k) v (u chosen)) (term_kept yes p.grows (item_within (length x.exprs) items k d can.there (omega arith)))
+    ∙ ap (λ (v : Term). Mux (is_item s (t index) k) v (u chosen)) (term_kept yes p.grows (part_there (length x.exprs) items k d can.there (omega arith)))
     ∙ ap (Mux (is_item s (t index) k) (t yes)) (p.tree ∙ sym (ap (chain x items index) q))
     ∙ sym (choices_step s t items k d (t index) more)))
 

@@ -2,7 +2,7 @@
 use Rattle.std.proofs.Common.{◌≡◌, ℕ, ℤ, Bool, true, nat_eq, ne_eqb, ◌+◌, ◌-◌, ◌<◌, ◌≤◌, List, [], ◌∷◌, ◌++◌, append_assoc, Option, Some, None, length, take, drop, get_or, refl, sym, ap, subst, ◌∙◌, arith, cond, length-drop}
 use Rattle.std.specs.Prelude.{IsTrue}
 use Rattle.std.proofs.lemmas.Bool.{and_parts, true≢false}
-use Rattle.std.proofs.lemmas.List.{append-nil}
+use Rattle.std.proofs.lemmas.List.{append-nil, drop_all}
 use Rattle.std.proofs.Math.Seq.{take-length}
 use Rattle.lx_num.specs.Ints.{unsigned}
 use Rattle.lx_tables.specs.declared.operators.Op.TheVariants as op
@@ -29,10 +29,11 @@ use Rattle.lx_plain.specs.Plain.{IsBit, TermPut}
 use Rattle.lx_plain.specs.declared.owned.Own.{Own}
 use Rattle.lx_flat.proofs.Arms.{keys_next}
 use Rattle.lx_flat.specs.Puts.{branches_inside, branches_of, flat_of, lines_for, lines_inside, lowered_at}
-use Rattle.lx_flat.proofs.Items.{next_item, nothing_left}
+use Rattle.lx_flat.proofs.Items.{next_item}
 use Rattle.lx_plain.proofs.Lining.{lines_under}
-use Rattle.lx_plain.proofs.Puts.{append_all, holds_kept, holds_new, put_is, put_lines, put_then, put_after, some_is, some_lines, some_more, some_grown, some_all, under_put}
+use Rattle.lx_plain.proofs.Puts.{holds_kept, holds_new, put_is, put_lines, put_then, put_after, some_is, some_lines, some_more, some_grown, some_all, under_put}
 use Rattle.lx_plain.proofs.Sound.{grows_then, same_shapes, term_kept}
+use Rattle.lx_lowering.proofs.Appends.{append_all}
 
 -- ---- parts of a statement are lower
 
@@ -80,7 +81,7 @@ block_more s h f ids k z l p q = some_more (some_lines (λ i. ap (lines_in (f i)
 
 pub block_done : (s : Shapes) (h : ℕ → tree.Stmt) (f : ℕ → ℕ → List Assigned) (ids : List StmtId) (k : ℕ) {u x : Design} {a b : List Own} {whole : Block} {ls : ℕ → List Assigned} → length ids ≤ k
     → PutSome u x a b whole (flat_block s (block_at h (drop k ids))) ls (λ i. lines_in (f i) (drop k ids)) → Put u x a b whole ls
-block_done s h f ids k l p = some_all (λ i. ap (lines_in (f i)) (nothing_left ids k l)) (some_is (ap (λ (is : List StmtId). flat_block s (block_at h is)) (nothing_left ids k l)) p)
+block_done s h f ids k l p = some_all (λ i. ap (lines_in (f i)) (drop_all k ids l)) (some_is (ap (λ (is : List StmtId). flat_block s (block_at h is)) (drop_all k ids l)) p)
 
 -- ---- branches
 
@@ -128,7 +129,7 @@ chain_more s t h f bs k b r rl none cond here next {x = x} {y = y} {v = v} {w = 
 pub chain_done : (s : Shapes) (t : ℕ → Term) (h : ℕ → tree.Stmt) (f : ℕ → ℕ → List Assigned) (bs : List Branch) (k : ℕ) (n : Term) (r : Block) (rl : ℕ → List Assigned) {u x : Design} {a b : List Own} {whole : Block} {ls : ℕ → List Assigned} → length bs ≤ k
     → PutSome u x a b whole (flat_chain s n (branches_at t h (drop k bs)) r) ls (both_lines (λ i. branch_lines (f i) (drop k bs)) rl) → PutSome u x a b whole (some_when n r) ls rl
 chain_done s t h f bs k n r rl l p =
-    some_lines (λ i. ap (λ (xs : List Branch). branch_lines (f i) xs ++ rl i) (nothing_left bs k l)) (some_is (ap (λ (xs : List Branch). flat_chain s n (branches_at t h xs) r) (nothing_left bs k l)) p)
+    some_lines (λ i. ap (λ (xs : List Branch). branch_lines (f i) xs ++ rl i) (drop_all k bs l)) (some_is (ap (λ (xs : List Branch). flat_chain s n (branches_at t h xs) r) (drop_all k bs l)) p)
 
 -- the first of several branches, and the further ones
 pub several_are : (s : Shapes) (t : ℕ → Term) (h : ℕ → tree.Stmt) (bs : List Branch) (z : Branch) (r : Block) → 2 ≤ length bs
@@ -160,7 +161,7 @@ arms_more s h f arms k z o on here fresh {x = x} {y = y} l same sx i is p e q =
 
 pub arms_done : (s : Shapes) (h : ℕ → tree.Stmt) (f : ℕ → ℕ → List Assigned) (arms : List Arm) (k : ℕ) (o : Term) (seen : List ℤ) {u x : Design} {a b : List Own} {whole : Block} {ls : ℕ → List Assigned} → length arms ≤ k
     → PutSome u x a b whole (arms_block s h o seen (drop k arms)) ls (λ j. arm_lines (f j) (drop k arms)) → Put u x a b whole ls
-arms_done s h f arms k o seen l p = some_all (λ j. ap (arm_lines (f j)) (nothing_left arms k l)) (some_is (ap (arms_block s h o seen) (nothing_left arms k l)) p)
+arms_done s h f arms k o seen l p = some_all (λ j. ap (arm_lines (f j)) (drop_all k arms l)) (some_is (ap (arms_block s h o seen) (drop_all k arms l)) p)
 
 -- the arms alone, and the rest where no key is the value
 pub arms_are : (s : Shapes) (h : ℕ → tree.Stmt) (on : Term) (seen : List ℤ) (before : Option Term) (arms : List Arm) (r : Block) → append (arms_block s h on seen arms) (otherwise (none_after s on seen before arms) r) ≡ flat_arms s on seen before (arms_at h arms) r

@@ -1,5 +1,5 @@
 -- Items of a list from a place on.
-use Rattle.std.proofs.Common.{◌≡◌, ℕ, zero, suc, ◌+◌, ◌<◌, ◌≤◌, List, [], ◌∷◌, length, drop, get_or, refl, sym, ap, ◌∙◌, arith, drop-cons, add-one, length-drop, nat_lt}
+use Rattle.std.proofs.Common.{◌≡◌, ℕ, zero, suc, ◌+◌, ◌<◌, List, [], ◌∷◌, length, drop, get_or, sym, ap, ◌∙◌, arith, drop-cons, add-one, nat_lt}
 use Rattle.std.specs.Prelude.{IsTrue}
 use Rattle.std.proofs.lemmas.Bool.{and_parts, ltb-true}
 use Rattle.lx_fhdl.specs.Below.{StmtId, all_stmts_below, all_branches_below, all_arms_below}
@@ -9,13 +9,6 @@ use Rattle.lx_fhdl.specs.declared.stmts.Branch.{Branch}
 
 pub next_item : {X : Type 0} (xs : List X) (k : ℕ) (d : X) → k < length xs → drop k xs ≡ get_or xs k d ∷ drop (k + 1) xs
 next_item xs k d h = drop-cons xs k d h ∙ ap (λ (j : ℕ). get_or xs k d ∷ drop j xs) (sym (add-one k))
-
-pub nothing_left : {X : Type 0} (xs : List X) (k : ℕ) → length xs ≤ k → drop k xs ≡ []
-nothing_left {X} xs k l = by_length (drop k xs) (omega (arith, length-drop k xs))
-  where
-    by_length : (ys : List X) → length ys ≡ 0 → ys ≡ []
-    by_length [] h = refl
-    by_length (y ∷ ys) h = absurd (omega arith)
 
 -- ---- branches and arms
 

@@ -2,7 +2,7 @@
 use Rattle.std.proofs.Common.{◌≡◌, ℕ, zero, suc, ◌+◌, ◌<◌, ◌≤◌, ◌≢◌, Bool, true, false, List, [], ◌∷◌, length, drop, get_or, nat_eq, nat_lt, refl, sym, ap, subst, ◌∙◌, arith, length-drop, eq-eqb, ne_eqb, eqb-true}
 use Rattle.std.specs.Prelude.{cond, IsTrue}
 use Rattle.std.proofs.lemmas.Bool.{and_parts, ltb-true}
-use Rattle.std.proofs.lemmas.List.{append-nil}
+use Rattle.std.proofs.lemmas.List.{append-nil, drop_all}
 use Rattle.lx_fhdl.specs.declared.exprs.Expr.{Expr}
 use Rattle.lx_circuit.specs.Shapes.{Shapes, shape_of}
 use Rattle.lx_circuit.specs.Statements as tree
@@ -27,7 +27,7 @@ use Rattle.lx_plain.specs.Sources.{IsLowered, Read, place_at}
 use Rattle.lx_plain.specs.declared.operands.Operand.{Operand}
 use Rattle.lx_plain.specs.declared.owned.Own.{Own}
 use Rattle.lx_flat.specs.Puts.{items_lines}
-use Rattle.lx_flat.proofs.Items.{next_item, nothing_left}
+use Rattle.lx_flat.proofs.Items.{next_item}
 use Rattle.lx_plain.proofs.Lining.{under_append}
 use Rattle.lx_plain.proofs.Puts.{holds_is, holds_kept, holds_new, some_is, some_lines, some_more, some_grown, some_all, when_under}
 use Rattle.lx_plain.proofs.Sound.{grows_same, grows_then, same_shapes, term_kept}
@@ -135,7 +135,7 @@ parts_next s g xs k z e f last l h t =
         → parts_assigns s (targets_at g (drop (k + 1) xs)) (without_low s (target_bits s (g (get_or xs k z).place)) e) ≡ parts_assigns s (targets_at g (drop (k + 1) xs)) f
     by_last false h t = ap (parts_assigns s (targets_at g (drop (k + 1) xs))) (sym (t refl))
     by_last true h t =
-        let none = nothing_left xs (k + 1) (omega (arith, eqb-true (k + 1) (length xs) (sym h))) in
+        let none = drop_all (k + 1) xs (omega (arith, eqb-true (k + 1) (length xs) (sym h))) in
         ap (λ (ys : List TargetId). parts_assigns s (targets_at g ys) (without_low s (target_bits s (g (get_or xs k z).place)) e)) none
         ∙ sym (ap (λ (ys : List TargetId). parts_assigns s (targets_at g ys) f) none)
 
@@ -168,7 +168,7 @@ next_lines g xs k d line l x =
     ap (λ (ys : List TargetId). targets_lines (targets_at g ys) line x) (next_item xs k d l)
 
 done_lines : (g : ℕ → tree.Target) (xs : List TargetId) (k line : ℕ) → length xs ≤ k → (x : ℕ) → targets_lines (targets_at g (drop k xs)) line x ≡ []
-done_lines g xs k line l x = ap (λ (ys : List TargetId). targets_lines (targets_at g ys) line x) (nothing_left xs k l)
+done_lines g xs k line l x = ap (λ (ys : List TargetId). targets_lines (targets_at g ys) line x) (drop_all k xs l)
 
 -- several items stand each under a condition, and a lone one under none
 pub several_items : (g : ℕ → tree.Target) (xs : List TargetId) (line : ℕ) → length xs ≢ 1 → (x : ℕ) → items_lines (targets_at g xs) line x ≡ under line (targets_lines (targets_at g xs) line x)
@@ -193,7 +193,7 @@ items_more s g xs k line d i e f h last test {z = z} {then_ = then_} {b = b} l m
 
 pub items_done : (s : Shapes) (g : ℕ → tree.Target) (xs : List TargetId) (k line : ℕ) (i e : Term) {u x : Design} {a b : List Own} {whole : Block} {ls : ℕ → List Assigned} → length xs ≤ k
     → PutSome u x a b whole (items_assigns s k (targets_at g (drop k xs)) i e) ls (under_each line (targets_lines (targets_at g (drop k xs)) line)) → Put u x a b whole ls
-items_done s g xs k line i e l p = some_all (λ j. ap (under line) (done_lines g xs k line l j)) (some_is (ap (λ (ys : List TargetId). items_assigns s k (targets_at g ys) i e) (nothing_left xs k l)) p)
+items_done s g xs k line i e l p = some_all (λ j. ap (under line) (done_lines g xs k line l j)) (some_is (ap (λ (ys : List TargetId). items_assigns s k (targets_at g ys) i e) (drop_all k xs l)) p)
 
 -- one part more
 pub parts_more : (s : Shapes) (g : ℕ → tree.Target) (xs : List TargetId) (k line : ℕ) (d : TargetId) (e f : Term) (last : Bool) {u x y z : Design} {a b c : List Own} {whole : Block} {ls : ℕ → List Assigned} → k < length xs → last ≡ nat_eq (k + 1) (length xs)
@@ -205,7 +205,7 @@ parts_more s g xs k line d e f last l n o p q grows = some_grown (some_more (som
 
 pub parts_done : (s : Shapes) (g : ℕ → tree.Target) (xs : List TargetId) (k line : ℕ) (e : Term) {u x : Design} {a b : List Own} {whole : Block} {ls : ℕ → List Assigned} → length xs ≤ k
     → PutSome u x a b whole (parts_assigns s (targets_at g (drop k xs)) e) ls (targets_lines (targets_at g (drop k xs)) line) → Put u x a b whole ls
-parts_done s g xs k line e l p = some_all (done_lines g xs k line l) (some_is (ap (λ (ys : List TargetId). parts_assigns s (targets_at g ys) e) (nothing_left xs k l)) p)
+parts_done s g xs k line e l p = some_all (done_lines g xs k line l) (some_is (ap (λ (ys : List TargetId). parts_assigns s (targets_at g ys) e) (drop_all k xs l)) p)
 
 -- the number of the parts after this one
 pub rest_as : {r : Read} {x y z : Design} {v w : Operand} {k : ℕ} (last : Bool) (s : Shapes) → shapes y ≡ s → v.id.place < length x.exprs → Grows x y → RestPut r y z v w k last → last ≡ false

@@ -1,13 +1,13 @@
 -- The signals and statements that are folded.
-use Rattle.std.proofs.Common.{◌≡◌, ℕ, zero, suc, ◌+◌, ◌*◌, ◌^◌, ◌<◌, Bool, true, false, List, [], ◌∷◌, length, drop, get_or, map, to_z, of_z, refl, sym, ap, ◌∙◌, arith}
-use Rattle.std.specs.Prelude.{ℤ, pos, FitsSigned, ◌==◌, Some, slice_get, slice_index_or}
+use Rattle.std.proofs.Common.{◌≡◌, ℕ, zero, suc, ◌+◌, ◌*◌, ◌^◌, ◌<◌, Bool, true, false, List, [], ◌∷◌, length, drop, get_or, to_z, of_z, refl, sym, ap, ◌∙◌, arith}
+use Rattle.std.specs.Prelude.{ℤ, pos, FitsSigned, ◌==◌, Some, slice_get}
 use Rattle.std.proofs.Math.Nat.{zero-mod, zero-div}
 use Rattle.std.specs.Int.{w128}
 use Rattle.std.proofs.lemmas.Int.{to_z-of_z, to_z_pos}
 use Rattle.std.proofs.lemmas.Bool.{and_parts}
 use Rattle.lx_num.specs.declared.Shape.{Shape}
 use Rattle.lx_num.specs.Ints.{modulo, wrapped}
-use Rattle.lx_circuit.specs.Circuit.{Made, nothing}
+use Rattle.lx_circuit.specs.Circuit.{Made}
 use Rattle.lx_circuit.specs.Shapes.{Shapes}
 use Rattle.lx_circuit.specs.Statements as tree
 use Rattle.lx_circuit.specs.Statements.{after_pieces, laid_over, result, taken, taken_block}
@@ -15,14 +15,9 @@ use Rattle.lx_circuit.specs.Places.{Values}
 use Rattle.lx_circuit.proofs.Cases.{after_append}
 use Rattle.lx_fhdl.specs.Below.{StmtId}
 use Rattle.lx_fhdl.specs.Designs as design
-use Rattle.lx_fhdl.specs.Drafts.{DraftKeeps}
-use Rattle.lx_fhdl.specs.Stmts.{node_stmt}
 use Rattle.lx_fhdl.specs.declared.stmts.Stmt.{Stmt}
-use Rattle.lx_fhdl.proofs.StmtTrees.{stmt_at-is}
-use Rattle.lx_plain.specs.Lines.{Assigned, alone, first_line, folded_lines, lines_at, lines_in}
-use Rattle.lx_plain.specs.Owned.{node_lines_of}
-use Rattle.lx_plain.proofs.Lining.{lines_at-is}
-use Rattle.lx_fhdl.specs.Designs.{circuit_of, made_of, shapes}
+use Rattle.lx_plain.specs.Lines.{Assigned, alone, first_line, folded_lines, lines_in}
+use Rattle.lx_fhdl.specs.Designs.{circuit_of, shapes}
 use Rattle.lx_fhdl.specs.Lowered.{is_done, is_for, are_for}
 use Rattle.lx_fhdl.specs.Stmts.{block_at}
 use Rattle.lx_fhdl.specs.declared.design.Design.{Design}
@@ -31,13 +26,9 @@ use Rattle.lx_lowering.specs.Constants.{block_reads_none, reads_none, zeros, con
 use Rattle.lx_lowering.specs.Flat.{one}
 use Rattle.lx_lower.specs.Fixed.{AreForFree, constant_in, folded_in, reset_of}
 use Rattle.lx_flat.proofs.Items.{next_item}
+use Rattle.lx_plain.proofs.Reading.{made_at}
 
 -- ---- signals
-
-made_at : (ss : List Signal) (x : ℕ) (s : Signal) → slice_get ss x ≡ Some s → made_of s ≡ slice_index_or (map made_of ss) x nothing
-made_at [] x s e = absurd (cc)
-made_at (t ∷ ss) zero s e = let same : t ≡ s = cc in ap made_of (sym same)
-made_at (t ∷ ss) (suc x) s e = made_at ss x s e
 
 pub signal_reset : (d : Design) (x : ℕ) (s : Signal) → slice_get d.signals x ≡ Some s → s.reset ≡ reset_of d x
 unfolding circuit_of
@@ -96,12 +87,6 @@ some_done f [] b e h = absurd (cc)
 some_done f (i ∷ is) b e h = refl
 
 -- ---- nodes of a draft
-
-pub stmt_tree : (d : Design) (k : ℕ) (x : Stmt) → DraftKeeps d → slice_get d.stmts k ≡ Some x → design.stmt d k ≡ node_stmt (design.term d) (design.target d) (design.stmt d) x
-stmt_tree d k x keep e = stmt_at-is (design.term d) (design.target d) d.stmts keep.arenas.stmts_lower k x e
-
-pub stmt_lines : (d : Design) (k : ℕ) (x : Stmt) → DraftKeeps d → slice_get d.stmts k ≡ Some x → (s : ℕ) → lines_at d s k ≡ node_lines_of d s x
-stmt_lines d k x keep e s = lines_at-is d s k x keep.arenas.stmts_lower e
 
 pub block_some : (f : ℕ → tree.Stmt) (ids : List StmtId) → 0 < length ids → is_done (block_at f ids) ≡ false
 block_some f [] l = absurd (omega arith)

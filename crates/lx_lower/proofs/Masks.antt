@@ -1,16 +1,15 @@
 -- The values of free expressions, from an arena in which the others are 0.
-use Rattle.std.proofs.Common.{◌≡◌, ℕ, ◌+◌, ◌<◌, Bool, true, false, ◌&&◌, cond, List, [], ◌∷◌, ◌++◌, length, take, drop, get_or, refl, sym, ap, ◌∙◌, subst, arith, inl, inr, ne_eqb}
-use Rattle.std.specs.Prelude.{ℤ, Some, None, slice_get, IsTrue}
+use Rattle.std.proofs.Common.{◌≡◌, ℕ, ◌+◌, ◌<◌, Bool, true, false, ◌&&◌, List, [], ◌∷◌, ◌++◌, length, take, drop, get_or, refl, sym, ap, ◌∙◌, subst, arith, inl, inr}
+use Rattle.std.specs.Prelude.{ℤ, Some, slice_get, IsTrue}
 use Rattle.std.proofs.lemmas.Bool.{and_parts, cases_lt}
-use Rattle.std.proofs.lemmas.List.{get_or_default, length_push, take_at}
+use Rattle.std.proofs.lemmas.List.{get_or_default, take_at, length_push}
 use Rattle.std.proofs.lemmas.Option.{slice_get_within}
 use Rattle.std.proofs.Math.Path.{fun_ext}
 use Rattle.lx_num.specs.declared.Shape.{Shape}
 use Rattle.lx_arena.specs.Lower.{EachLower}
 use Rattle.lx_arena.proofs.Places.{by_places, get_front, get_last, lower_at, node_there}
 use Rattle.lx_circuit.specs.Places.{Place, Values, At, Word, Kept}
-use Rattle.lx_circuit.specs.Shapes.{Shapes, constant_fault, shape_of, too_wide}
-use Rattle.lx_circuit.specs.declared.WidthFault.TheVariants.{BadWidth}
+use Rattle.lx_circuit.specs.Shapes.{Shapes, shape_of}
 use Rattle.lx_circuit.specs.Terms as term
 use Rattle.lx_circuit.specs.Terms.{Term, Terms, MoreTerms}
 use Rattle.lx_circuit.specs.Values.{value_of}
@@ -28,11 +27,11 @@ use Rattle.lx_fhdl.proofs.Meanings.{values_stand}
 use Rattle.lx_fhdl.proofs.Trees.{term_at-is}
 use Rattle.lx_lowering.specs.Constants.{names_none, zeros}
 use Rattle.lx_lower.specs.Fixed.{AreFree, AreValued, IsFixed, IsMask, all_free, free_at, mask_node, node_free}
-use Rattle.lx_plain.proofs.Conditions.{narrow}
 use Rattle.lx_lower.proofs.Freedom.{Tells, node_tells}
 use Rattle.lx_width.specs.Shapes.{AreShapes}
 use Rattle.lx_width.proofs.Shaped.{children, node_sound, shape_is}
 use Rattle.lx_plain.proofs.Sound.{shape_small, sound}
+use Rattle.lx_lowering.proofs.Picks.{small_constant}
 
 -- ---- the arena that is filled
 
@@ -154,10 +153,6 @@ own_shape s own hs (Pick items index) e = e
 own_shape s own hs (Replicate of count) e = e
 own_shape s own hs (Slice of low high) e = e
 own_shape s own hs (Fetch memory width at) e = e
-
-small_constant : (a : Shape) → IsSmall a → constant_fault a ≡ None
-small_constant a h =
-    ap (λ (b : Bool). cond b (Some BadWidth) (too_wide a.bits)) (ne_eqb a.bits 0 (λ e. omega (arith, h.some))) ∙ narrow a.bits h.most
 
 -- the nodes of the mask
 mask_at : (d : Design) (free : List Bool) (hs : List Shape) (ys : List Expr) (k : ℕ) (y : Expr) → Seen d free hs ys → slice_get ys k ≡ Some y → (x : Expr) × (slice_get d.exprs k ≡ Some x) × (mask_node (free_at free k) (shape_at hs k) x ≡ y)

@@ -1,6 +1,6 @@
 -- Conditions that are added to a draft.
 use Rattle.std.proofs.Common.{◌≡◌, ℕ, ◌*◌, ◌%◌, ◌^◌, ◌<◌, ◌≤◌, Bool, true, false, refl, sym, ap, ◌∙◌, arith, nat_lt, [], ◌∷◌, length, length-append}
-use Rattle.std.specs.Prelude.{ℤ, Option, Some, None, cond, min}
+use Rattle.std.specs.Prelude.{ℤ, Option, None}
 use Rattle.lx_circuit.specs.declared.WidthFault.{WidthFault}
 use Rattle.std.proofs.Math.Nat.{pow-le-pow_right}
 use Rattle.std.proofs.lemmas.Bool.{lt-ltb, and_from}
@@ -25,10 +25,9 @@ use Rattle.lx_plain.specs.declared.operands.Operand.{Operand}
 use Rattle.lx_plain.proofs.Sound.{grows_then, put_is, shape_kept, small_shape, term_kept}
 use Rattle.lx_num.specs.Ints.{shape, unsigned}
 use Rattle.lx_circuit.specs.Shapes.{joined, too_wide}
-use Rattle.lx_circuit.specs.declared.WidthFault.TheVariants.{TooWide}
-use Rattle.std.proofs.lemmas.Bool.{le-leb}
 use Rattle.lx_circuit.specs.Operands.{is_binary}
 use Rattle.lx_tables.specs.declared.operators.Op.TheVariants as op
+use Rattle.lx_fhdl.proofs.Operators.{narrow}
 
 -- a node that was added, by its tree
 pub term_put : (old new : Design) (x : Expr) (id : ℕ) → ExprAdded old new x id → TermPut old new id (node_term (term old) x)
@@ -75,9 +74,6 @@ test_binary _ h = absurd (cc)
 same_bits : (n : ℕ) (b : Bool) → (joined (shape n b) (shape n b)).bits ≡ n
 same_bits n true = omega arith
 same_bits n false = omega arith
-
-pub narrow : (n : ℕ) → n ≤ 127 → too_wide n ≡ None
-narrow n h = ap (λ (b : Bool). cond b None (Some (TooWide (min n 4294967295)))) (le-leb n 127 h)
 
 both_narrow : (a : Shape) → IsSmall a → or_else (too_wide (joined a a).bits) None ≡ None
 both_narrow a h = ap (λ o. or_else o None) (narrow (joined a a).bits (omega (arith, same_bits a.bits a.signed, h.most)))

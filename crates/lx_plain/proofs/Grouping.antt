@@ -2,7 +2,7 @@
 use Rattle.std.proofs.Common.{◌≡◌, ℕ, zero, suc, append_assoc, ◌+◌, ◌<◌, ◌≤◌, Bool, true, false, ◌&&◌, not, cond, List, [], ◌∷◌, ◌++◌, length, refl, sym, ap, subst, ◌∙◌, arith, nat_lt, nat_eq, eq-eqb, eqb-true, ne_eqb, take, get_or, set, get_or-set_same, get_or-set_other, inl, inr}
 use Rattle.std.specs.Prelude.{IsTrue}
 use Rattle.std.proofs.Math.ListN.{length-set}
-use Rattle.std.proofs.lemmas.Bool.{and_parts, cases_lt, ltb-true, lt-ltb, eqb-false, and_from}
+use Rattle.std.proofs.lemmas.Bool.{and_parts, cases_lt, ltb-true, lt-ltb, eqb-false, and_from, le-ltb}
 use Rattle.std.proofs.lemmas.List.{append-nil, get_or_default, take_all, get_or_append_left, get_or_push, length_push, take_more}
 use Rattle.lx_fhdl.specs.Below.{StmtId}
 use Rattle.lx_fhdl.specs.declared.exprs.SigId.{SigId}
@@ -10,18 +10,6 @@ use Rattle.lx_plain.specs.Owned.{AreGrouped, AreGroups, HasPlace, OwnsAdded, all
 use Rattle.lx_plain.specs.declared.groups.Group.{Group}
 use Rattle.lx_plain.specs.declared.owned.Own.{Own}
 use Rattle.lx_plain.proofs.Puts.{ids_append}
-
--- ---- tests
-
-pub lt_not : (j k : ℕ) → k ≤ j → nat_lt j k ≡ false
-lt_not j k h = by_test (nat_lt j k) refl
-  where
-    by_test : (b : Bool) → nat_lt j k ≡ b → b ≡ false
-    by_test true e = absurd (omega (arith, ltb-true j k e))
-    by_test false e = refl
-
-pub other_not : (j k : ℕ) → (j ≡ k → ⊥) → nat_eq j k ≡ false
-other_not j k h = ne_eqb j k h
 
 -- ---- a group of no statement for a signal that has none
 
@@ -58,14 +46,14 @@ made_side side s gs e x y same none l h = by_signal (nat_eq x y) refl
           | inr p ↦
               elim (cases_lt m j) [
                 | inl q ↦
-                    ap (λ (b : Bool). cond (b && nat_eq (group_at hs j).signal.0 y) (side (group_at hs j)) []) (lt_not j (length hs) (omega (arith, long)))
-                    ∙ sym (ap (λ (b : Bool). cond (b && nat_eq (group_at gs j).signal.0 y) (side (group_at gs j)) []) (lt_not j m p))
+                    ap (λ (b : Bool). cond (b && nat_eq (group_at hs j).signal.0 y) (side (group_at hs j)) []) (le-ltb j (length hs) (omega (arith, long)))
+                    ∙ sym (ap (λ (b : Bool). cond (b && nat_eq (group_at gs j).signal.0 y) (side (group_at gs j)) []) (le-ltb j m p))
                 | inr q ↦
                     let at : m ≡ j = omega arith in
                     let last : group_at hs j ≡ e = get_or_push gs e no_group j at in
-                    let apart : nat_eq (group_at hs j).signal.0 y ≡ false = other_not (group_at hs j).signal.0 y (λ f. other (sym same ∙ sym (ap (λ (g : Group). g.signal.0) last) ∙ f)) in
+                    let apart : nat_eq (group_at hs j).signal.0 y ≡ false = ne_eqb (group_at hs j).signal.0 y (λ f. other (sym same ∙ sym (ap (λ (g : Group). g.signal.0) last) ∙ f)) in
                     both_false (nat_lt j (length hs)) (nat_eq (group_at hs j).signal.0 y) (side (group_at hs j)) apart
-                    ∙ sym (ap (λ (b : Bool). cond (b && nat_eq (group_at gs j).signal.0 y) (side (group_at gs j)) []) (lt_not j m p))
+                    ∙ sym (ap (λ (b : Bool). cond (b && nat_eq (group_at gs j).signal.0 y) (side (group_at gs j)) []) (le-ltb j m p))
               ]
         ]
 
@@ -175,9 +163,9 @@ pushed_side side t hs x at e y l slot old new = ap (λ (m : ℕ). ids_at side t 
             let here : slot_at t y ≡ at = eqb-true (slot_at t y) at r in
             let apart = eqb-false x y q in
             let one : nat_eq (group_at is (slot_at t y)).signal.0 y ≡ false =
-            other_not (group_at is (slot_at t y)).signal.0 y (λ f. apart (sym (ap (λ (j : ℕ). (group_at is j).signal.0) here ∙ ap (λ (g : Group). g.signal.0) (get_or-set_same hs at e no_group l) ∙ new) ∙ f)) in
+            ne_eqb (group_at is (slot_at t y)).signal.0 y (λ f. apart (sym (ap (λ (j : ℕ). (group_at is j).signal.0) here ∙ ap (λ (g : Group). g.signal.0) (get_or-set_same hs at e no_group l) ∙ new) ∙ f)) in
             let two : nat_eq (group_at hs (slot_at t y)).signal.0 y ≡ false =
-            other_not (group_at hs (slot_at t y)).signal.0 y (λ f. apart (sym (ap (λ (j : ℕ). (group_at hs j).signal.0) here ∙ old) ∙ f)) in
+            ne_eqb (group_at hs (slot_at t y)).signal.0 y (λ f. apart (sym (ap (λ (j : ℕ). (group_at hs j).signal.0) here ∙ old) ∙ f)) in
             empty (nat_lt (slot_at t y) m) (nat_eq (group_at is (slot_at t y)).signal.0 y) (side (group_at is (slot_at t y))) one
             ∙ sym (empty (nat_lt (slot_at t y) m) (nat_eq (group_at hs (slot_at t y)).signal.0 y) (side (group_at hs (slot_at t y))) two)
         by_slot false r =
@@ -310,7 +298,7 @@ are_grouped s t r gs hs is then_ else_ e p q =
     record { table = r; groups = q.groups n (λ x. ids_of x then_) (λ x. []) (p.groups n (λ x. []) (λ x. []) start) }
   where
     nothing : (side : Group → List StmtId) (x : ℕ) → ids_at side s [] 0 x ≡ []
-    nothing side x = ap (λ (b : Bool). cond (b && nat_eq (group_at [] (slot_at s x)).signal.0 x) (side (group_at [] (slot_at s x))) []) (lt_not (slot_at s x) 0 (omega arith))
+    nothing side x = ap (λ (b : Bool). cond (b && nat_eq (group_at [] (slot_at s x)).signal.0 x) (side (group_at [] (slot_at s x))) []) (le-ltb (slot_at s x) 0 (omega arith))
 
 -- all of them
 pub owns_all : (os : List Own) (k : ℕ) (holds : Bool) (s t : List ℕ) (gs hs : List Group) → length os ≤ k → OwnsAdded (take k os) holds s t gs hs → OwnsAdded os holds s t gs hs
@@ -320,7 +308,7 @@ owns_all os k holds s t gs hs l p = subst (λ (ws : List Own). OwnsAdded ws hold
 pub group_beyond : (s : List ℕ) (gs : List Group) (x at d : ℕ) → x < length s → at ≡ get_or s x d → length gs ≤ at → has_group s gs (length gs) x ≡ false
 group_beyond s gs x at d l e far =
     let slot : slot_at s x ≡ at = get_or_default s x 0 d l ∙ sym e in
-    ap (λ (j : ℕ). nat_lt j (length gs) && nat_eq (group_at gs j).signal.0 x) slot ∙ ap (λ (b : Bool). b && nat_eq (group_at gs at).signal.0 x) (lt_not at (length gs) far)
+    ap (λ (j : ℕ). nat_lt j (length gs) && nat_eq (group_at gs j).signal.0 x) slot ∙ ap (λ (b : Bool). b && nat_eq (group_at gs at).signal.0 x) (le-ltb at (length gs) far)
 
 pub group_other : (s : List ℕ) (gs : List Group) (x at d : ℕ) (g : Group) → x < length s → at ≡ get_or s x d → at < length gs → g ≡ get_or gs at g → (g.signal.0 ≡ x → ⊥) → has_group s gs (length gs) x ≡ false
 group_other s gs x at d g l e within here apart =
@@ -328,7 +316,7 @@ group_other s gs x at d g l e within here apart =
     let is : group_at gs at ≡ g = get_or_default gs at no_group g within ∙ sym here in
     ap (λ (j : ℕ). nat_lt j (length gs) && nat_eq (group_at gs j).signal.0 x) slot
     ∙ ap (λ (h : Group). nat_lt at (length gs) && nat_eq h.signal.0 x) is
-    ∙ ap (λ (b : Bool). nat_lt at (length gs) && b) (other_not g.signal.0 x apart)
+    ∙ ap (λ (b : Bool). nat_lt at (length gs) && b) (ne_eqb g.signal.0 x apart)
     ∙ none (nat_lt at (length gs))
   where
     none : (b : Bool) → (b && false) ≡ false

@@ -1,6 +1,6 @@
 -- Statements for signals that are put one after the other.
 use Rattle.std.proofs.Common.{◌≡◌, ℕ, ◌<◌, ◌≤◌, Bool, true, false, ◌&&◌, cond, List, [], ◌∷◌, ◌++◌, length, refl, sym, ap, subst, ◌∙◌, arith, nat_lt, nat_eq, eq-eqb, eqb-true, length-append, append_assoc}
-use Rattle.std.specs.Prelude.{Result, Ok, Err, OnOk, IsTrue}
+use Rattle.std.specs.Prelude.{IsTrue}
 use Rattle.std.proofs.lemmas.List.{append-nil}
 use Rattle.std.proofs.lemmas.Bool.{and_parts, ltb-true, lt-ltb, and_from}
 use Rattle.lx_circuit.specs.Terms.{Term}
@@ -26,20 +26,9 @@ use Rattle.lx_plain.specs.Plain.{Grows, StmtAdded, TargetAdded}
 use Rattle.lx_plain.specs.declared.owned.Own.{Own}
 use Rattle.lx_plain.proofs.Lining.{under_append}
 use Rattle.lx_plain.proofs.Sound.{grows_same, grows_then}
-
-pub on_ok : {T E : Type 0} (r : Result T E) (P Q : Type 0) → (P → Q) → OnOk r P → OnOk r Q
-on_ok (Ok x) P Q f h = f h
-on_ok (Err e) P Q f h = tt
+use Rattle.lx_lowering.proofs.Appends.{append_done, append_all}
 
 -- ---- blocks
-
-pub append_done : (a : Block) → append a Done ≡ a
-append_done Done = refl
-append_done (Then x xs) = ap (Then x) (append_done xs)
-
-pub append_all : (a b c : Block) → append (append a b) c ≡ append a (append b c)
-append_all Done b c = refl
-append_all (Then x xs) b c = ap (Then x) (append_all xs b c)
 
 pub block_append : (h : ℕ → tree.Stmt) (a b : List StmtId) → block_at h (a ++ b) ≡ append (block_at h a) (block_at h b)
 block_append h [] b = refl

@@ -6,26 +6,22 @@ use Rattle.lx_num.specs.Ints.{shape}
 use Rattle.lx_circuit.specs.Shapes.{Shapes, shape_of}
 use Rattle.lx_fhdl.specs.Designs as design
 use Rattle.lx_fhdl.specs.Designs.{circuit_of, made_of, shapes, term}
-use Rattle.lx_circuit.specs.Circuit.{nothing}
 use Rattle.lx_circuit.specs.Statements as tree
 use Rattle.lx_circuit.specs.Statements.{target_bits}
-use Rattle.lx_fhdl.specs.Keeping.{StmtStands, TargetStands}
-use Rattle.lx_fhdl.specs.Stmts.{node_stmt, node_target}
+use Rattle.lx_fhdl.specs.Stmts.{node_target}
 use Rattle.lx_fhdl.specs.declared.design.Signal.{Signal}
-use Rattle.lx_fhdl.specs.declared.stmts.Stmt.{Stmt}
 use Rattle.lx_fhdl.specs.declared.stmts.Target.{Target}
-use Rattle.lx_fhdl.proofs.StmtTrees.{stmt_at-is, target_at-is}
+use Rattle.lx_fhdl.proofs.StmtTrees.{target_at-is}
 use Rattle.std.proofs.lemmas.Option.{slice_get_within}
 use Rattle.lx_fhdl.specs.Instance.{the_expr}
 use Rattle.lx_fhdl.specs.Keeping.{Keeps}
 use Rattle.lx_fhdl.specs.declared.design.Design.{Design}
 use Rattle.lx_lowering.proofs.LowerTerms.{lower_shape}
-use Rattle.lx_plain.specs.Lines.{expr_shape, lines_at}
+use Rattle.lx_plain.specs.Lines.{expr_shape}
 use Rattle.lx_plain.specs.Operands.{HasShape}
-use Rattle.lx_plain.specs.Owned.{node_lines_of}
 use Rattle.lx_plain.specs.Sources.{Read, IsRead, IsLowered, place_at}
-use Rattle.lx_plain.proofs.Lining.{lines_at-is}
 use Rattle.lx_plain.proofs.Sound.{arenas, same_shapes, sound, term_keeps}
+use Rattle.lx_circuit.specs.Circuit.{Made, nothing}
 
 -- a lowered tree has the shape that stands for the tree
 pub lowered_shape : (r : Read) (d : Design) (k : ℕ) → IsRead r → IsLowered r d → k < length r.places → shape_of (shapes d) (term d (place_at r.places k)) ≡ slice_index_or r.shapes k (shape 0 false)
@@ -46,32 +42,18 @@ shape_read r k read l = read.sized.each k (omega (arith, read.most))
 
 -- ---- nodes of the design
 
-pub target_read : (d : Design) (k : ℕ) (x : Target) → Keeps d → slice_get d.targets k ≡ Some x → TargetStands (shapes d) (length d.signals) d.exprs x
-target_read d k x keep e = keep.arenas.targets k x e
-
-pub target_tree : (d : Design) (k : ℕ) (x : Target) → Keeps d → slice_get d.targets k ≡ Some x → design.target d k ≡ node_target (term d) (design.target d) x
-target_tree d k x keep e = target_at-is (term d) d.targets keep.arenas.targets_lower k x e
-
 pub target_most : (d : Design) (k : ℕ) (x : Target) → Keeps d → slice_get d.targets k ≡ Some x → target_bits (shapes d) (node_target (term d) (design.target d) x) ≤ 127
 target_most d k x keep e = subst (λ (t : tree.Target). target_bits (shapes d) t ≤ 127) (target_at-is (term d) d.targets keep.arenas.targets_lower k x e) (keep.arenas.target_bits k (slice_get_within d.targets k x e))
 
-pub stmt_read : (d : Design) (k : ℕ) (x : Stmt) → Keeps d → slice_get d.stmts k ≡ Some x → StmtStands (length d.exprs) (length d.targets) x
-stmt_read d k x keep e = keep.arenas.stmts k x e
-
-pub stmt_tree : (d : Design) (k : ℕ) (x : Stmt) → Keeps d → slice_get d.stmts k ≡ Some x → design.stmt d k ≡ node_stmt (term d) (design.target d) (design.stmt d) x
-stmt_tree d k x keep e = stmt_at-is (term d) (design.target d) d.stmts keep.arenas.stmts_lower k x e
-
-made_shape : (ss : List Signal) (x : ℕ) (s : Signal) → slice_get ss x ≡ Some s → s.shape ≡ (slice_index_or (map made_of ss) x nothing).shape
-made_shape [] x s e = absurd (cc)
-made_shape (r ∷ rs) zero s e = let p : r ≡ s = cc in ap (λ (z : Signal). z.shape) (sym p)
-made_shape (r ∷ rs) (suc x) s e = made_shape rs x s e
+-- what a signal is made of
+pub made_at : (ss : List Signal) (x : ℕ) (s : Signal) → slice_get ss x ≡ Some s → made_of s ≡ slice_index_or (map made_of ss) x nothing
+made_at [] x s e = absurd (cc)
+made_at (r ∷ rs) zero s e = let same : r ≡ s = cc in ap made_of (sym same)
+made_at (r ∷ rs) (suc x) s e = made_at rs x s e
 
 pub signal_shape_is : (d : Design) (x : ℕ) (s : Signal) → slice_get d.signals x ≡ Some s → s.shape ≡ shapes d x
 unfolding circuit_of
-signal_shape_is d x s e = made_shape d.signals x s e
+signal_shape_is d x s e = ap (λ (m : Made). m.shape) (made_at d.signals x s e)
 
 pub signal_bits_are : (d : Design) (x : ℕ) (s : Signal) → slice_get d.signals x ≡ Some s → s.shape.bits ≡ (shapes d x).bits
 signal_bits_are d x s e = ap (λ (a : Shape). a.bits) (signal_shape_is d x s e)
-
-pub stmt_lines : (d : Design) (k : ℕ) (x : Stmt) → Keeps d → slice_get d.stmts k ≡ Some x → (s : ℕ) → lines_at d s k ≡ node_lines_of d s x
-stmt_lines d k x keep e s = lines_at-is d s k x keep.arenas.stmts_lower e

@@ -1,8 +1,8 @@
 -- Statements under a condition, signal by signal.
-use Rattle.std.proofs.Common.{◌≡◌, ℕ, ◌+◌, ◌<◌, ◌≤◌, Bool, true, false, ◌&&◌, cond, List, [], ◌∷◌, ◌++◌, length, refl, sym, ap, subst, ◌∙◌, arith, nat_lt, nat_eq, eq-eqb, eqb-true, inl, inr}
+use Rattle.std.proofs.Common.{◌≡◌, ℕ, ◌+◌, ◌<◌, ◌≤◌, Bool, true, false, ◌&&◌, cond, List, [], ◌∷◌, ◌++◌, length, refl, sym, ap, subst, ◌∙◌, arith, nat_lt, nat_eq, eq-eqb, eqb-true, inl, inr, ne_eqb}
 use Rattle.std.specs.Prelude.{IsTrue}
 use Rattle.std.proofs.lemmas.List.{append-nil}
-use Rattle.std.proofs.lemmas.Bool.{and_from, cases_lt, eqb-false, lt-ltb}
+use Rattle.std.proofs.lemmas.Bool.{and_from, cases_lt, eqb-false, lt-ltb, le-ltb}
 use Rattle.lx_circuit.specs.Statements as tree
 use Rattle.lx_circuit.specs.Statements.{Block, Done, Then}
 use Rattle.lx_circuit.specs.Terms.{Term}
@@ -20,10 +20,11 @@ use Rattle.lx_plain.specs.Owned.{node_lines_of, own_lines, tree_of, AreGrouped, 
 use Rattle.lx_plain.specs.Plain.{Grows}
 use Rattle.lx_plain.specs.declared.groups.Group.{Group}
 use Rattle.lx_plain.specs.declared.owned.Own.{Own}
-use Rattle.lx_plain.proofs.Grouping.{lt_not, other_not, side_there}
+use Rattle.lx_plain.proofs.Grouping.{side_there}
 use Rattle.lx_plain.proofs.Lining.{lines_under, under_append}
-use Rattle.lx_plain.proofs.Puts.{lines_kept, append_done, as_many, block_kept, ids_there, owned_kept}
+use Rattle.lx_plain.proofs.Puts.{lines_kept, as_many, block_kept, ids_there, owned_kept}
 use Rattle.lx_plain.proofs.Sound.{grows_same, grows_then, term_kept}
+use Rattle.lx_lowering.proofs.Appends.{append_done}
 
 -- ---- one group
 
@@ -99,10 +100,10 @@ under_none d a c then_ else_ line gs h p = record {
   owned = h;
   own = λ x l.
       sym (append_done (own d a x))
-      ∙ ap (append (own d a x)) (sym (ap (λ (b : Bool). cond (b && nat_eq (group_at gs (slot_at p.table x)).signal.0 x) (lone_if c (block d (ids_at then_of p.table gs (length gs) x)) (block d (ids_at else_of p.table gs (length gs) x))) Done) (lt_not (slot_at p.table x) 0 (omega arith))));
+      ∙ ap (append (own d a x)) (sym (ap (λ (b : Bool). cond (b && nat_eq (group_at gs (slot_at p.table x)).signal.0 x) (lone_if c (block d (ids_at then_of p.table gs (length gs) x)) (block d (ids_at else_of p.table gs (length gs) x))) Done) (le-ltb (slot_at p.table x) 0 (omega arith))));
   lines = λ x l.
       sym (append-nil (own_lines d a x))
-      ∙ ap (λ (xs : List Assigned). own_lines d a x ++ xs) (sym (ap (λ (b : Bool). cond (b && nat_eq (group_at gs (slot_at p.table x)).signal.0 x) (under line (lines d x (ids_at then_of p.table gs (length gs) x) ++ lines d x (ids_at else_of p.table gs (length gs) x))) []) (lt_not (slot_at p.table x) 0 (omega arith))));
+      ∙ ap (λ (xs : List Assigned). own_lines d a x ++ xs) (sym (ap (λ (b : Bool). cond (b && nat_eq (group_at gs (slot_at p.table x)).signal.0 x) (under line (lines d x (ids_at then_of p.table gs (length gs) x) ++ lines d x (ids_at else_of p.table gs (length gs) x))) []) (le-ltb (slot_at p.table x) 0 (omega arith))));
 }
 
 -- the statements of a group stand
@@ -150,7 +151,7 @@ under_more old x y before a b then_ else_ cond_id line gs k g h i there l e u p 
     has_now = ap (λ (j : ℕ). nat_lt j (k + 1) && nat_eq (group_at gs j).signal.0 s) slot ∙ and_from (nat_lt k (k + 1)) (nat_eq s s) (lt-ltb k (k + 1) (omega arith)) (eq-eqb s s refl)
 
     not_yet : has_group u.table gs k s ≡ false
-    not_yet = ap (λ (j : ℕ). nat_lt j k && nat_eq (group_at gs j).signal.0 s) slot ∙ ap (λ (r : Bool). r && nat_eq s s) (lt_not k k (omega arith))
+    not_yet = ap (λ (j : ℕ). nat_lt j k && nat_eq (group_at gs j).signal.0 s) slot ∙ ap (λ (r : Bool). r && nat_eq s s) (le-ltb k k (omega arith))
 
     side : (f : Group → List StmtId) → ids_at f u.table gs (length gs) s ≡ f (group_at gs k)
     side f = side_there f u.table gs s k l slot refl
@@ -203,10 +204,10 @@ under_more old x y before a b then_ else_ cond_id line gs k g h i there l e u p 
           | inl q ↦ ap (λ (r : Bool). r && nat_eq (group_at gs (slot_at u.table z)).signal.0 z) (lt-ltb (slot_at u.table z) (k + 1) (omega arith) ∙ sym (lt-ltb (slot_at u.table z) k q))
           | inr q ↦
               elim (cases_lt k (slot_at u.table z)) [
-                | inl r ↦ ap (λ (r : Bool). r && nat_eq (group_at gs (slot_at u.table z)).signal.0 z) (lt_not (slot_at u.table z) (k + 1) (omega arith) ∙ sym (lt_not (slot_at u.table z) k q))
+                | inl r ↦ ap (λ (r : Bool). r && nat_eq (group_at gs (slot_at u.table z)).signal.0 z) (le-ltb (slot_at u.table z) (k + 1) (omega arith) ∙ sym (le-ltb (slot_at u.table z) k q))
                 | inr r ↦
                     let at : slot_at u.table z ≡ k = omega arith in
-                    let other : nat_eq (group_at gs (slot_at u.table z)).signal.0 z ≡ false = other_not (group_at gs (slot_at u.table z)).signal.0 z (λ f. apart (sym (ap (λ (j : ℕ). (group_at gs j).signal.0) at) ∙ f)) in
+                    let other : nat_eq (group_at gs (slot_at u.table z)).signal.0 z ≡ false = ne_eqb (group_at gs (slot_at u.table z)).signal.0 z (λ f. apart (sym (ap (λ (j : ℕ). (group_at gs j).signal.0) at) ∙ f)) in
                     none_and (nat_lt (slot_at u.table z) (k + 1)) _ other ∙ sym (none_and (nat_lt (slot_at u.table z) k) _ other)
               ]
         ]

@@ -1,8 +1,9 @@
 use Rattle.std.proofs.Common.{rules, ◌∙◌, ◌<◌, [], length, refl, arith}
+use Rattle.std.proofs.lemmas.Result.{on_ok_weaker}
 use Rattle.lx_fhdl.specs.Below.{TargetId}
 use Rattle.lx_fhdl.specs.Designs.{target}
 use Rattle.lx_flat.proofs.Pieces.{items_done, items_lower, items_more, most_as, node_as, several_items, part_added, put_target, parts_done, parts_lower, parts_more, rest_as, ready_for, ready_shapes, stands_as, target_below_at, whole_added}
-use Rattle.lx_plain.proofs.Puts.{on_ok, owned_kept, some_lines, some_start}
+use Rattle.lx_plain.proofs.Puts.{owned_kept, some_lines, some_start}
 use Rattle.lx_plain.proofs.Sound.{grows_then, shape_kept, term_kept}
 use Rattle.lx_flat.proofs.assigns.+assigns.Goals as goal
 
@@ -32,22 +33,22 @@ put_assigns-put_pick-requires t c =
 pub put_assigns-returns-in-Whole : goal.put_assigns-returns-in-Whole
 put_assigns-returns-in-Whole t c =
     let same = node_as _ _ _ _ _ c.target.ensures.tree c.in-Whole.is in
-    on_ok c.put_assignment.result _ _ (λ p. put_target _ c.args.line _ same p) c.put_assignment.ensures
+    on_ok_weaker c.put_assignment.result (λ p. put_target _ c.args.line _ same p) c.put_assignment.ensures
 
 pub put_assigns-returns-in-Part : goal.put_assigns-returns-in-Part
 put_assigns-returns-in-Part t c =
     let same = node_as _ _ _ _ _ c.target.ensures.tree c.in-Part.is in
-    on_ok c.put_assignment-in-Part.result _ _ (λ p. put_target _ c.args.line _ same p) c.put_assignment-in-Part.ensures
+    on_ok_weaker c.put_assignment-in-Part.result (λ p. put_target _ c.args.line _ same p) c.put_assignment-in-Part.ensures
 
 pub put_assigns-returns-in-Cat : goal.put_assigns-returns-in-Cat
 put_assigns-returns-in-Cat t c =
     let same = node_as _ _ _ _ _ c.target.ensures.tree c.in-Cat.is in
-    on_ok c.put_parts.result _ _ (λ p. put_target _ c.args.line _ same p) (rw c.as_slice.ensures at c.put_parts.ensures)
+    on_ok_weaker c.put_parts.result (λ p. put_target _ c.args.line _ same p) (rw c.as_slice.ensures at c.put_parts.ensures)
 
 pub put_assigns-returns-in-Pick : goal.put_assigns-returns-in-Pick
 put_assigns-returns-in-Pick t c =
     let same = node_as _ _ _ _ _ c.target.ensures.tree c.in-Pick.is in
-    on_ok c.put_pick.result _ _ (λ p. put_target _ c.args.line _ same p) (rw c.as_slice-items.ensures at c.put_pick.ensures)
+    on_ok_weaker c.put_pick.result (λ p. put_target _ c.args.line _ same p) (rw c.as_slice-items.ensures at c.put_pick.ensures)
 
 pub put_items-loop-number-init : goal.put_items-loop-number-init
 put_items-loop-number-init t c = some_lines (several_items (target c.args.source.now.design) c.args.items.now c.args.line c.requires.several) (some_start _ _ _ _ c.requires.ready.owned)

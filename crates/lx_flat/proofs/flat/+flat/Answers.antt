@@ -1,6 +1,7 @@
 use Rattle.std.proofs.Common.{rules, ◌<◌, true, [], Option, None, length, take, ◌∷◌, sym, ap, ◌∙◌, arith, FitsSigned}
 use Rattle.std.specs.Int.{w128}
 use Rattle.std.proofs.lemmas.Int.{to_z-of_z}
+use Rattle.std.proofs.lemmas.Result.{on_ok_weaker}
 use Rattle.lx_num.specs.declared.Shape.{Shape}
 use Rattle.lx_circuit.specs.Shapes.{shape_of}
 use Rattle.lx_circuit.specs.Terms.{Term}
@@ -16,7 +17,7 @@ use Rattle.lx_flat.proofs.Flats.{after_first, arms_are, arms_done, arms_more, bl
 use Rattle.lx_flat.proofs.Arms.{fresh_is, key_is, no_key_there, some_key}
 use Rattle.lx_flat.proofs.Items.{arm_body_at, bodies_after, body_at, cond_at, conds_after, stmt_below_at}
 use Rattle.lx_flat.proofs.Pieces.{lowered_kept, own_shape_is, ready_for, ready_shapes}
-use Rattle.lx_plain.proofs.Puts.{holds_new, on_ok, owned_kept, put_after, put_is, put_lines, put_none, put_then, some_last, some_start, some_under}
+use Rattle.lx_plain.proofs.Puts.{holds_new, owned_kept, put_after, put_is, put_lines, put_none, put_then, some_last, some_start, some_under}
 use Rattle.lx_plain.proofs.Sound.{bit_kept, grows_same, grows_then, shape_kept, small_shape, term_kept}
 use Rattle.lx_flat.proofs.flat.+flat.Goals as goal
 
@@ -36,7 +37,7 @@ pub put_block_when-returns : goal.put_block_when-returns
 put_block_when-returns t c =
     let own = rw c.new-own.ensures at c.in_ok-put_flat_block.ensures in
     let cond = term_kept c.args.cond.place own.grows c.requires.cond in
-    on_ok c.put_when.result _ _ (λ p. put_under c.args.source.now.design c.args.line c.args.ids.now (some_under c.args.cond.place _ own.grows c.requires.ready.owned (holds_new own) cond p)) (rw c.as_slice.ensures at c.put_when.ensures)
+    on_ok_weaker c.put_when.result (λ p. put_under c.args.source.now.design c.args.line c.args.ids.now (some_under c.args.cond.place _ own.grows c.requires.ready.owned (holds_new own) cond p)) (rw c.as_slice.ensures at c.put_when.ensures)
 
 pub put_flat_block-loop-id-init : goal.put_flat_block-loop-id-init
 put_flat_block-loop-id-init t c = some_start _ _ _ _ c.requires.ready.owned
@@ -76,17 +77,17 @@ pub put_flat-returns-in-Assign : goal.put_flat-returns-in-Assign
 put_flat-returns-in-Assign t c =
     let node = ap (flat (shapes c.args.source.now.design)) (node_stmt_is _ _ _ _ _ _ c.stmt.ensures.tree c.in-Assign.is) in
     let value = ap (assigns (shapes c.args.source.now.design) (designs.target c.args.source.now.design c.in-Assign.target.place)) c.lowered-value.ensures.tree in
-    on_ok c.put_assigns.result _ _ (λ p. put_lines (node_lines_is _ _ _ _ c.stmt.ensures.lines c.in-Assign.is) (put_is (value ∙ sym node) p)) c.put_assigns.ensures
+    on_ok_weaker c.put_assigns.result (λ p. put_lines (node_lines_is _ _ _ _ c.stmt.ensures.lines c.in-Assign.is) (put_is (value ∙ sym node) p)) c.put_assigns.ensures
 
 pub put_flat-returns-in-If : goal.put_flat-returns-in-If
 put_flat-returns-in-If t c =
     let node = ap (flat (shapes c.args.source.now.design)) (node_stmt_is _ _ _ _ _ _ c.stmt.ensures.tree c.in-If.is) in
-    on_ok c.put_if.result _ _ (λ p. put_lines (node_lines_is _ _ _ _ c.stmt.ensures.lines c.in-If.is) (put_is (sym node) p)) (rw (c.as_slice-branches.ensures, c.as_slice-rest.ensures) at c.put_if.ensures)
+    on_ok_weaker c.put_if.result (λ p. put_lines (node_lines_is _ _ _ _ c.stmt.ensures.lines c.in-If.is) (put_is (sym node) p)) (rw (c.as_slice-branches.ensures, c.as_slice-rest.ensures) at c.put_if.ensures)
 
 pub put_flat-returns-in-Case : goal.put_flat-returns-in-Case
 put_flat-returns-in-Case t c =
     let node = ap (flat (shapes c.args.source.now.design)) (node_stmt_is _ _ _ _ _ _ c.stmt.ensures.tree c.in-Case.is) in
-    on_ok c.put_case.result _ _ (λ p. put_lines (node_lines_is _ _ _ _ c.stmt.ensures.lines c.in-Case.is) (put_is (sym node) p)) (rw (c.as_slice-arms.ensures, c.as_slice-rest-in-Case.ensures) at c.put_case.ensures)
+    on_ok_weaker c.put_case.result (λ p. put_lines (node_lines_is _ _ _ _ c.stmt.ensures.lines c.in-Case.is) (put_is (sym node) p)) (rw (c.as_slice-arms.ensures, c.as_slice-rest-in-Case.ensures) at c.put_case.ensures)
 
 pub put_if-put_lone-requires : goal.put_if-put_lone-requires
 put_if-put_lone-requires t c = (omega arith, (c.requires.ready, (lone_branch _ _ c.args.branches.now _ c.requires.branches c.if-branches-eq1.true c.index-branches-0.is, c.requires.rest)))
@@ -109,7 +110,7 @@ put_several-put_chain-requires t c =
 pub put_several-returns : goal.put_several-returns
 put_several-returns t c =
     let own = rw c.as_slice-body.ensures at c.in_ok-put_block_when.ensures in
-    on_ok c.put_chain.result _ _
+    on_ok_weaker c.put_chain.result
     (λ p. put_branches c.args.source.now.design c.args.line c.args.branches.now c.args.rest.now (omega (arith, c.requires.several)) (several_put _ _ _ (λ i. inside true c.args.line (lines_at c.args.source.now.design i)) c.args.branches.now c.index-branches-0.result _ _ c.lowered-cond.result.id.place c.in_ok-none.none.place c.requires.several c.index-branches-0.is c.lowered-cond.ensures.shape.there (ready_shapes c.requires.ready own.grows) c.lowered-cond.ensures.tree own c.in_ok-none.ensures p))
     (rw (after_first c.args.branches.now) at c.put_chain.ensures)
 
@@ -125,7 +126,7 @@ pub put_lone-returns : goal.put_lone-returns
 put_lone-returns t c =
     let own = rw (c.new-then_.ensures, c.as_slice-body.ensures) at c.in_ok-put_flat_block.ensures in
     let other = rw c.new-else_.ensures at c.in_ok-put_flat_block-2.ensures in
-    on_ok c.put_under.result _ _ (λ p. put_both_under c.args.source.now.design c.args.line c.args.branch.now.body c.args.rest.now (lone_put c.lowered-cond.result.id.place _ _ c.requires.ready.owned c.lowered-cond.ensures.tree own other p)) (rw (c.as_slice.ensures, c.as_slice-2.ensures) at c.put_under.ensures)
+    on_ok_weaker c.put_under.result (λ p. put_both_under c.args.source.now.design c.args.line c.args.branch.now.body c.args.rest.now (lone_put c.lowered-cond.result.id.place _ _ c.requires.ready.owned c.lowered-cond.ensures.tree own other p)) (rw (c.as_slice.ensures, c.as_slice-2.ensures) at c.put_under.ensures)
 
 pub put_chain-loop-branch-init : goal.put_chain-loop-branch-init
 put_chain-loop-branch-init t c = (some_start _ _ _ _ c.requires.ready.owned, c.requires.none)
@@ -236,7 +237,7 @@ put_case-returns t c =
     let after = ap (λ (o : Term). otherwise (none_after s o [] None c.args.arms.now) r) on in
     let same = arms_are s h (term c.args.draft.now c.lowered-on.result.id.place) [] None c.args.arms.now r ∙ ap (λ (o : Term). flat_arms s o [] None (arms_at h c.args.arms.now) r) c.lowered-on.ensures.tree in
     let key = ap (λ (o : Term). has_key (shape_of s o) c.args.arms.now) on ∙ ap (λ (a : Shape). has_key a c.args.arms.now) (own_shape_is c.requires.ready c.lowered-on.ensures.shape ∙ c.lowered-on.ensures.same) in
-    on_ok c.put_otherwise.result _ _ (λ p. put_is same (put_then own (put_is after (put_where c.args.source.now.design c.args.line c.args.rest.now key p)))) c.put_otherwise.ensures
+    on_ok_weaker c.put_otherwise.result (λ p. put_is same (put_then own (put_is after (put_where c.args.source.now.design c.args.line c.args.rest.now key p)))) c.put_otherwise.ensures
 
 pub put_otherwise-returns-in-Some : goal.put_otherwise-returns-in-Some
 put_otherwise-returns-in-Some t c =
@@ -246,7 +247,7 @@ put_otherwise-returns-in-Some t c =
     let after = (some_none c.in-Some.none no c.in-Some.is).1 ∙ ap (λ z. none_after z (term c.args.draft.now c.args.on.id.place) [] None c.args.arms.now) (ready_shapes c.requires.ready (grows_same _)) in
     let same = ap (λ (o : Option Term). otherwise o r) after in
     let key = some_key s (term c.args.draft.now c.args.on.id.place) c.args.arms.now _ after in
-    on_ok c.put_block_when.result _ _ (λ p. put_after no.grows c.requires.ready.owned (put_is same (put_where c.args.source.now.design c.args.line c.args.rest.now (sym key) p))) c.put_block_when.ensures
+    on_ok_weaker c.put_block_when.result (λ p. put_after no.grows c.requires.ready.owned (put_is same (put_where c.args.source.now.design c.args.line c.args.rest.now (sym key) p))) c.put_block_when.ensures
 
 pub put_otherwise-returns-in-None : goal.put_otherwise-returns-in-None
 put_otherwise-returns-in-None t c =
@@ -256,7 +257,7 @@ put_otherwise-returns-in-None t c =
     let after = no_none no c.in-None.is ∙ ap (λ z. none_after z (term c.args.draft.now c.args.on.id.place) [] None c.args.arms.now) (ready_shapes c.requires.ready (grows_same _)) in
     let same = ap (λ (o : Option Term). otherwise o r) after in
     let key = no_key_there s (term c.args.draft.now c.args.on.id.place) c.args.arms.now after in
-    on_ok c.put_flat_block.result _ _ (λ p. put_after no.grows c.requires.ready.owned (put_is same (put_where c.args.source.now.design c.args.line c.args.rest.now (sym key) p))) c.put_flat_block.ensures
+    on_ok_weaker c.put_flat_block.result (λ p. put_after no.grows c.requires.ready.owned (put_is same (put_where c.args.source.now.design c.args.line c.args.rest.now (sym key) p))) c.put_flat_block.ensures
 
 pub put_chain-returns : goal.put_chain-returns
-put_chain-returns t c = on_ok c.put_block_when-2.result _ _ (λ p. some_last (chain_done _ _ _ (λ i. inside true c.args.line (lines_at c.args.source.now.design i)) c.args.branches.now c.loop-branch.branch-index _ _ _ (omega arith) c.loop-branch.invariant.0) p) c.put_block_when-2.ensures
+put_chain-returns t c = on_ok_weaker c.put_block_when-2.result (λ p. some_last (chain_done _ _ _ (λ i. inside true c.args.line (lines_at c.args.source.now.design i)) c.args.branches.now c.loop-branch.branch-index _ _ _ (omega arith) c.loop-branch.invariant.0) p) c.put_block_when-2.ensures

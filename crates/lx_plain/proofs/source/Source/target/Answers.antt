@@ -1,13 +1,16 @@
-use Rattle.lx_plain.proofs.Reading.{target_most, target_read, target_tree}
+use Rattle.lx_fhdl.proofs.Drafts.{target_is}
+use Rattle.lx_plain.proofs.Reading.{target_most}
 use Rattle.lx_plain.proofs.source.Source.target.Goals as goal
 
 pub get-requires : goal.get-requires
 get-requires c = rw (← c.self.view_is) at c.requires
 
 pub returns : goal.returns
-returns c = rw (← c.self.view_is) (record {
-  below = c.get.ensures.lower;
-  stands = target_read _ _ _ c.self.invariant.keeps c.get.ensures.item;
-  tree = target_tree _ _ _ c.self.invariant.keeps c.get.ensures.item;
-  most = target_most _ _ _ c.self.invariant.keeps c.get.ensures.item;
-})
+returns c =
+    let arenas = c.self.invariant.keeps.arenas in
+    rw (← c.self.view_is) (record {
+      below = c.get.ensures.lower;
+      stands = arenas.targets _ _ c.get.ensures.item;
+      tree = target_is _ _ _ arenas.targets_lower c.get.ensures.item;
+      most = target_most _ _ _ c.self.invariant.keeps c.get.ensures.item;
+    })
