@@ -32,7 +32,7 @@ fn copied_signal(alloc: Global, signal: &Signal) -> Result<Signal, NoMemory>
 }
 
 /// Copies of signals.
-pub fn copied_signals(alloc: Global, signals: &[Signal]) -> Result<List<Signal>, NoMemory>
+pub(crate) fn copied_signals(alloc: Global, signals: &[Signal]) -> Result<List<Signal>, NoMemory>
     ensures { IfOk result (λ list. list ≡ signals.now) }
 {
     let mut list = List::new(alloc);
@@ -67,7 +67,7 @@ fn copied_memory(alloc: Global, memory: &Memory) -> Result<Memory, NoMemory>
 }
 
 /// Copies of memories.
-pub fn copied_memories(alloc: Global, memories: &[Memory]) -> Result<List<Memory>, NoMemory>
+pub(crate) fn copied_memories(alloc: Global, memories: &[Memory]) -> Result<List<Memory>, NoMemory>
     ensures { IfOk result (λ list. list ≡ memories.now) }
 {
     let mut list = List::new(alloc);

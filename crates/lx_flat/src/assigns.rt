@@ -60,7 +60,7 @@ fn push_rest(
 
 /// Adds the assignments of a number to the parts of a target, from a line.
 #[cycle(assigns)]
-pub fn put_assigns(
+pub(crate) fn put_assigns(
     alloc: Global,
     source: &Source,
     draft: &mut PlainDraft,

@@ -11,7 +11,7 @@ use lx_plain::source::Source;
 
 /// The bits of a target; one with an index has those of its widest item.
 #[cycle(bits)]
-pub fn target_bits(source: &Source, id: TargetId) -> u8
+pub(crate) fn target_bits(source: &Source, id: TargetId) -> u8
     requires { id.place < length source.now.design.targets }
     ensures { result ≡ target_bits (designs.shapes source.now.design) (designs.target source.now.design id.place) }
 {

@@ -31,7 +31,7 @@ fn is_fresh(key: i128, shape: Shape, first: bool) -> bool
 }
 
 /// For each arm, whether its key is one of the values of a shape and stands in no arm before.
-pub fn fresh_keys(alloc: Global, arms: &[Arm], shape: Shape) -> Result<List<bool>, NoMemory>
+pub(crate) fn fresh_keys(alloc: Global, arms: &[Arm], shape: Shape) -> Result<List<bool>, NoMemory>
     requires { IsSmall shape }
     ensures { IfOk result (λ fresh. AreFresh shape arms.now (length arms.now) fresh) }
 {
@@ -46,7 +46,7 @@ pub fn fresh_keys(alloc: Global, arms: &[Arm], shape: Shape) -> Result<List<bool
 }
 
 /// Adds the condition that an expression is a key, which it never is where the key isn't fresh.
-pub fn push_key(
+pub(crate) fn push_key(
     draft: &mut PlainDraft,
     on: Operand,
     fresh: bool,
@@ -100,7 +100,7 @@ fn push_no_key(
 }
 
 /// Adds the condition that an expression is no key of some arms, where it can be one.
-pub fn push_no_keys(
+pub(crate) fn push_no_keys(
     draft: &mut PlainDraft,
     on: Operand,
     arms: &[Arm],

@@ -1,7 +1,9 @@
 //! The statements of a design, flattened: each assigns a signal or some of its bits, under its own condition.
 #![tactic(auto)]
 
-pub mod assigns;
-pub mod bits;
-pub mod flat;
-pub mod keys;
+mod assigns;
+mod bits;
+mod flat;
+mod keys;
+
+pub use flat::flatten;

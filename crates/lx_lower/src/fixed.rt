@@ -201,7 +201,7 @@ fn values(alloc: Global, exprs: &Exprs, shapes: &[Shape]) -> Result<List<i128>, 
 }
 
 /// What is known of each expression of a draft.
-pub fn fixed_exprs(alloc: Global, design: &Design) -> Result<Fixed, NoMemory>
+pub(crate) fn fixed_exprs(alloc: Global, design: &Design) -> Result<Fixed, NoMemory>
     requires { DraftKeeps design.now }
     ensures { IfOk result (λ fixed. IsFixed design.now fixed) }
 {

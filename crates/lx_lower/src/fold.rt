@@ -167,7 +167,7 @@ fn first_line_in(known: &Known, x: SigId, ids: &[StmtId], bound: usize) -> u32
 }
 
 /// What statements for a signal give it, and the first line of them, where they read nothing.
-pub fn fold_of(known: &Known, x: SigId, ids: &[StmtId]) -> Option<Folded>
+pub(crate) fn fold_of(known: &Known, x: SigId, ids: &[StmtId]) -> Option<Folded>
     requires signal { x.0 < length known.now.signals }
     requires there { IsTrue (all_stmts_below (length known.now.stmts) ids.now) }
     requires alone { are_for x.0 (block known.now ids.now) ≡ true }

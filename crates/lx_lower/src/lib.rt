@@ -4,8 +4,8 @@
 mod fixed;
 mod fold;
 mod known;
-pub mod lists;
-pub mod parts;
-pub mod whole;
+mod lists;
+mod parts;
+mod whole;
 
 pub use whole::lower;

@@ -30,7 +30,11 @@ fn no_lists(alloc: Global, signals: usize) -> Result<Vec<List<StmtId>>, NoMemory
 }
 
 /// For each of some signals its statements.
-pub fn by_signal(alloc: Global, owns: &[Own], signals: usize) -> Result<Vec<List<StmtId>>, NoMemory>
+pub(crate) fn by_signal(
+    alloc: Global,
+    owns: &[Own],
+    signals: usize,
+) -> Result<Vec<List<StmtId>>, NoMemory>
     requires { IsTrue (all_signals signals owns.now) }
     ensures { IfOk result (λ lists. AreBySignal signals owns.now lists.items) }
 {
@@ -42,7 +46,7 @@ pub fn by_signal(alloc: Global, owns: &[Own], signals: usize) -> Result<Vec<List
 }
 
 /// Adds statements at the end of a list.
-pub fn add_all(out: &mut List<StmtId>, ids: &[StmtId]) -> Result<(), NoMemory>
+pub(crate) fn add_all(out: &mut List<StmtId>, ids: &[StmtId]) -> Result<(), NoMemory>
     ensures { OnOk result (out.new ≡ out.old ++ ids.now) }
 {
     for id in ids {
@@ -52,7 +56,7 @@ pub fn add_all(out: &mut List<StmtId>, ids: &[StmtId]) -> Result<(), NoMemory>
 }
 
 /// All lists, one after the other.
-pub fn joined(alloc: Global, lists: &[List<StmtId>]) -> Result<List<StmtId>, NoMemory>
+pub(crate) fn joined(alloc: Global, lists: &[List<StmtId>]) -> Result<List<StmtId>, NoMemory>
     ensures { IfOk result (λ list. list ≡ flat_map (λ ids. ids) lists.now) }
 {
     let mut list = List::new(alloc);
@@ -63,7 +67,7 @@ pub fn joined(alloc: Global, lists: &[List<StmtId>]) -> Result<List<StmtId>, NoM
 }
 
 /// What each list gives its signal, where it reads nothing.
-pub fn folds(
+pub(crate) fn folds(
     alloc: Global,
     draft: &Draft,
     lists: &[List<StmtId>],
@@ -123,7 +127,7 @@ fn fold_list(
 }
 
 /// The lists of all signals, where those that read nothing are folded.
-pub fn fold_lists(
+pub(crate) fn fold_lists(
     alloc: Global,
     draft: &mut PlainDraft,
     lists: &[List<StmtId>],

@@ -8,7 +8,7 @@ ghost use Rattle.lx_flat.specs.Ready.{IsReady};
 
 use crate::lists::{add_all, by_signal, fold_lists, folds, joined};
 use lx_fhdl::{StmtId, SyncPart};
-use lx_flat::flat::flatten;
+use lx_flat::flatten;
 use lx_plain::plain::PlainDraft;
 use lx_plain::source::Source;
 use lx_text::{List, NoMemory};
@@ -47,7 +47,7 @@ fn lower_list(
 }
 
 /// Adds the lists of the combinatorial statements, folded where they read nothing.
-pub fn lower_comb(
+pub(crate) fn lower_comb(
     alloc: Global,
     source: &Source,
     draft: &mut PlainDraft,
@@ -77,7 +77,7 @@ fn domain_stmts(alloc: Global, parts: &[SyncPart], domain: usize) -> Result<List
 }
 
 /// Adds the lists of each domain's statements.
-pub fn lower_sync(
+pub(crate) fn lower_sync(
     alloc: Global,
     source: &Source,
     draft: &mut PlainDraft,

@@ -48,9 +48,9 @@ pub fn push_binary(
     Ok(id)
 }
 
-#[tactic(auto, using(crate::proofs::Conditions::can_test, crate::proofs::Conditions::number_put, crate::proofs::Sound::small_shape))]
 /// Adds a comparison of an expression with a number of its shape.
-pub fn push_test(
+#[tactic(auto, using(crate::proofs::Conditions::can_test, crate::proofs::Conditions::number_put, crate::proofs::Sound::small_shape))]
+pub(crate) fn push_test(
     draft: &mut PlainDraft,
     op: Op,
     of: Operand,

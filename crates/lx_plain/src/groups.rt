@@ -94,7 +94,7 @@ fn add_owns(
 }
 
 /// The groups of statements where a condition holds, and where it fails.
-pub fn grouped(
+pub(crate) fn grouped(
     alloc: Global,
     slots: &mut Vec<usize>,
     then_: &[Own],

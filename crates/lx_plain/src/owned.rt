@@ -20,7 +20,7 @@ pub struct Own {
 }
 
 /// Adds a statement for a signal at the end of a list.
-pub fn put_own(
+pub(crate) fn put_own(
     draft: &mut PlainDraft,
     signal: SigId,
     node: Stmt,

@@ -123,7 +123,7 @@ impl PlainDraft {
 
     /// The groups of statements where a condition holds, and where it fails.
     #[tactic(auto, using(crate::proofs::Plains::slots_kept, crate::proofs::Plains::owned_signals))]
-    pub fn grouped(
+    pub(crate) fn grouped(
         &mut self,
         alloc: Global,
         then_: &[Own],
