@@ -6,4 +6,4 @@ pub returns : goal.returns
 returns c =
     let keeps = rw (c.self.view_is) at c.design.ensures.keeps in
     let item = rw (c.design.ensures.is, c.self.view_is) at c.get.ensures.item in
-    record { below = c.get.ensures.lower; stands = keeps.arenas.stmts _ _ item; tree = stmt_is _ _ _ keeps.arenas.stmts_lower item; lines = λ x. lines_at-is _ x _ _ keeps.arenas.stmts_lower item }
+    record { below = c.get.ensures.lower; stands = keeps.arenas.stmts _ _ item; tree = stmt_is c.args.self.now _ _ keeps.arenas.stmts_lower item; lines = λ x. lines_at-is c.args.self.now x _ _ keeps.arenas.stmts_lower item }

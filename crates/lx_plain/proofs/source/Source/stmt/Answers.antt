@@ -11,6 +11,6 @@ returns c =
     rw (← c.self.view_is) (record {
       below = c.get.ensures.lower;
       stands = arenas.stmts _ _ c.get.ensures.item;
-      tree = stmt_is _ _ _ arenas.stmts_lower c.get.ensures.item;
-      lines = λ x. lines_at-is _ x _ _ arenas.stmts_lower c.get.ensures.item;
+      tree = stmt_is c.self.inside.design.now _ _ arenas.stmts_lower c.get.ensures.item;
+      lines = λ x. lines_at-is c.self.inside.design.now x _ _ arenas.stmts_lower c.get.ensures.item;
     })

@@ -11,6 +11,6 @@ returns c =
     rw (← c.self.view_is) (record {
       below = c.get.ensures.lower;
       stands = arenas.targets _ _ c.get.ensures.item;
-      tree = target_is _ _ _ arenas.targets_lower c.get.ensures.item;
-      most = target_most _ _ _ c.self.invariant.keeps c.get.ensures.item;
+      tree = target_is c.self.inside.design.now _ _ arenas.targets_lower c.get.ensures.item;
+      most = target_most c.self.inside.design.now _ _ c.self.invariant.keeps c.get.ensures.item;
     })
