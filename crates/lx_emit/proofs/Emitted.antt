@@ -15,12 +15,13 @@ use Rattle.lx_emission.specs.Emission.{ports_of, decls_of, node_assign, places_f
 use Rattle.lx_emission.specs.Signals.{signal_assign}
 use Rattle.lx_emission.specs.Emits.{CanBeEmitted, Emits}
 use Rattle.lx_emission.proofs.Law.{emits}
-use Rattle.lx_emit.specs.Lines.{PutAssigns, PutAlways, all_signals_in}
-use Rattle.lx_emit.specs.Memories.{inits_in}
-use Rattle.lx_emit.specs.Plans.{plan}
-use Rattle.lx_emit.specs.Writes.{all_writes_in}
+use Rattle.lx_nets.specs.Lines.{PutAssigns}
+use Rattle.lx_blocks.specs.Lines.{PutAlways, all_signals_in}
+use Rattle.lx_nets.specs.Memories.{inits_in}
+use Rattle.lx_sheet.specs.Plans.{plan}
+use Rattle.lx_blocks.specs.Writes.{all_writes_in}
 use Rattle.lx_emit.specs.Whole.{ArePartsOf}
-use Rattle.lx_emit.proofs.Assigned.{assigns_placed, assigns_stay}
+use Rattle.lx_nets.proofs.Assigned.{assigns_placed, assigns_stay}
 
 abbrev assigns_of : Design → List Name → List VAssign
 assigns_of d names = flat_map (node_assign d names) (places_from 0 d.exprs) ++ flat_map (signal_assign d names) (places_from 0 d.signals)

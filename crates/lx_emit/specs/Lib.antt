@@ -1,13 +1,1 @@
-pub mod Drives
-pub mod Lines
-pub mod Lowered
-pub mod Marks
-pub mod Memories
-pub mod Operands
-pub mod Plans
-pub mod Puts
-pub mod Resets
-pub mod Sheets
-pub mod Tables
 pub mod Whole
-pub mod Writes

@@ -6,13 +6,14 @@ ghost use Rattle.lx_emission.specs.Emission.{emitted};
 ghost use Rattle.lx_emission.specs.Emits.{CanBeEmitted, Emits};
 ghost use Rattle.lx_emit.specs.Whole.{ArePartsOf};
 
-use crate::always::always;
-use crate::assigns::assigns;
-use crate::decls::decls;
-use crate::memories::inits;
-use crate::ports::ports;
-use crate::tables::Sheet;
+use lx_blocks::always::always;
+use lx_drives::sheet;
 use lx_fhdl::Design;
+use lx_nets::assigns::assigns;
+use lx_nets::decls::decls;
+use lx_nets::memories::inits;
+use lx_nets::ports::ports;
+use lx_sheet::Sheet;
 use lx_text::{List, NoMemory, Word};
 use lx_vtree::{Module, Nodes, Parts};
 use std::alloc::Global;
@@ -44,7 +45,7 @@ pub fn emit_design(alloc: Global, design: &Design, names: &List<Word>) -> Result
     ensures tree { IfOk result (λ m. module_of m ≡ emitted design.now names.now) }
     ensures emits { IfOk result (λ m. Emits design.now names.now (module_of m)) }
 {
-    let sheet = Sheet::new(alloc, design, names)?;
+    let sheet = sheet(alloc, design, names)?;
     let parts = parts(alloc, &sheet)?;
     Ok(Module::new(parts))
 }

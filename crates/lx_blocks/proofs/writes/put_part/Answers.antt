@@ -1,0 +1,13 @@
+use Rattle.std.proofs.lemmas.Result.{IfOk-weaker}
+use Rattle.lx_blocks.proofs.Grown.{lone_below}
+use Rattle.lx_blocks.proofs.Resets.{lone_when}
+use Rattle.lx_blocks.proofs.writes.put_part.Goals as goal
+
+pub add_stmt-requires-clause-below : goal.add_stmt-requires-clause-below
+add_stmt-requires-clause-below c = lone_below _ _ _ _ _ _ c.in_ok-assign.ensures c.in_ok-so.ensures c.in_ok-cond.ensures.grows
+
+pub returns : goal.returns
+returns c =
+    IfOk-weaker c.add_stmt.result _ _
+    (λ i p. lone_when _ _ _ _ _ _ _ _ _ _ c.in_ok-assign.ensures c.in_ok-so.ensures (rw c.in_ok-we.ensures at c.in_ok-cond.ensures) p)
+    c.add_stmt.ensures.ok

@@ -1,0 +1,5 @@
+pub mod Lines
+pub mod Plans
+pub mod Puts
+pub mod Resets
+pub mod Writes

@@ -1,7 +1,0 @@
-use Rattle.lx_emission.specs.Signals.{signal_assign}
-use Rattle.lx_emit.specs.Lines.{PutAssigns}
-use Rattle.lx_emit.proofs.Lines.{pieces}
-use Rattle.lx_emit.proofs.assigns.put_signals.Given as goal
-
-abbrev pub invariant-loop-x : goal.invariant-loop-x
-invariant-loop-x l = PutAssigns l.initial.nodes l.nodes l.initial.assigns l.assigns (pieces (signal_assign l.sheet.design l.sheet.names) l.sheet.design.signals l.x)

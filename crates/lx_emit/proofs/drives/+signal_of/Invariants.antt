@@ -1,4 +1,0 @@
-use Rattle.lx_emit.proofs.drives.+signal_of.Given as goal
-
-abbrev pub decreases-signal_of : goal.decreases-signal_of
-decreases-signal_of l = l.id.place

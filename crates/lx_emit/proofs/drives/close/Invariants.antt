@@ -1,5 +1,0 @@
-use Rattle.lx_emit.specs.Drives.{AreClosedTo}
-use Rattle.lx_emit.proofs.drives.close.Given as goal
-
-abbrev pub invariant-loop-x : goal.invariant-loop-x
-invariant-loop-x l = AreClosedTo l.lowered l.x l.initial.drives l.drives

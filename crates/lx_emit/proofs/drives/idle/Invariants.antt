@@ -1,5 +1,0 @@
-use Rattle.lx_emit.specs.Drives.{AreIdle}
-use Rattle.lx_emit.proofs.drives.idle.Given as goal
-
-abbrev pub invariant-loop-x : goal.invariant-loop-x
-invariant-loop-x l = AreIdle l.design l.x l.drives.items

@@ -1,5 +1,0 @@
-use Rattle.lx_emit.proofs.Driven.{net_is}
-use Rattle.lx_emit.proofs.nets.signal_net.Goals as goal
-
-pub returns : goal.returns
-returns c = net_is _ _ _ _ _ _ _ c.shape_of_signal-shape.ensures c.in_ok-name.ensures c.init.ensures c.drive_of.ensures.drive

@@ -1,8 +1,0 @@
-use Rattle.lx_emit.proofs.Driven.{drive_plain_at, drive_there_at}
-use Rattle.lx_emit.proofs.tables.drive_of.Goals as goal
-
-pub returns-clause-there : goal.returns-clause-there
-returns-clause-there c = rw (← c.sheet.view_is) (drive_there_at _ _ _ _ c.sheet.invariant.keeps c.sheet.invariant.drives c.at.ensures)
-
-pub returns-clause-plain : goal.returns-clause-plain
-returns-clause-plain c = rw (← c.sheet.view_is) (drive_plain_at _ _ _ _ c.sheet.invariant.lowered c.sheet.invariant.drives c.at.ensures)

@@ -1,8 +1,0 @@
-use Rattle.std.proofs.Common.{map}
-use Rattle.std.specs.List.{range_with_len}
-use Rattle.lx_emit.specs.Puts.{PutStmts}
-use Rattle.lx_emit.specs.Writes.{part_in}
-use Rattle.lx_emit.proofs.writes.put_parts.Given as goal
-
-abbrev pub invariant-loop-i : goal.invariant-loop-i
-invariant-loop-i l = PutStmts l.initial.nodes l.nodes l.initial.after l.after (map (part_in l.sheet l.write) (range_with_len 0 l.i))

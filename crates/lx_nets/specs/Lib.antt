@@ -1,0 +1,4 @@
+pub mod Lines
+pub mod Memories
+pub mod Plans
+pub mod Texts

@@ -1,0 +1,7 @@
+pub mod Drives
+pub mod Lowered
+pub mod Marks
+pub mod Operands
+pub mod Plans
+pub mod Sheets
+pub mod Tables
