@@ -5,9 +5,10 @@ ghost use Rattle.std.specs.Prelude.{◌<◌, length};
 use crate::case::{Ask, Case, Fails, Growing, bytes_of, pairs};
 use crate::showing::{show, show_number};
 use crate::tokens::{show_kinds, show_places};
+use lx_command::Status;
 use lx_outside::{MemConsole, MemSink, MemSource, Pair, have_distinct_names};
 use lx_text::{List, NoMemory, Text, Word};
-use lx_top::{Status, lxb};
+use lx_top::lxb;
 use std::alloc::Global;
 
 // The outside of a run.

@@ -29,7 +29,7 @@ pub(crate) fn show_kinds(
 ) -> Result<(), NoMemory> {
     let list = match tokens(alloc, bytes) {
         Ok(list) => list,
-        Err(refusal) => return show_refusal(alloc, name, &refusal, out),
+        Err(refusal) => return show_refusal(alloc, name, refusal, out),
     };
     for token in list.as_slice() {
         out.word(letter(token.kind))?;
@@ -46,7 +46,7 @@ pub(crate) fn show_places(
 ) -> Result<(), NoMemory> {
     let list = match tokens(alloc, bytes) {
         Ok(list) => list,
-        Err(refusal) => return show_refusal(alloc, name, &refusal, out),
+        Err(refusal) => return show_refusal(alloc, name, refusal, out),
     };
     for token in list.as_slice() {
         show_token(out, token)?;
@@ -66,6 +66,15 @@ fn show_token(out: &mut Text, token: &Token) -> Result<(), NoMemory> {
 }
 
 fn show_refusal(
+    alloc: Global,
+    name: &[u8],
+    refusal: Refusal,
+    out: &mut Text,
+) -> Result<(), NoMemory> {
+    put_refusal(alloc, name, &refusal, out)
+}
+
+fn put_refusal(
     alloc: Global,
     name: &[u8],
     refusal: &Refusal,

@@ -1,9 +1,9 @@
 //! Files that are stored and loaded again.
 
 use crate::showing::{show, show_loaded};
+use lx_command::{FileSink, FileSource};
 use lx_outside::{Failed, Sink, Source};
 use lx_text::{MAX_BYTES, NoMemory, Text};
-use lx_top::{FileSink, FileSource};
 use std::alloc::Global;
 use std::rt::Files;
 

@@ -1,9 +1,9 @@
 //! Readers and writers that give or take few bytes at a time, fail, or take nothing.
 
 use crate::showing::{is_front, show, show_loaded};
+use lx_command::{read_up_to, write_whole};
 use lx_outside::Failed;
 use lx_text::{NoMemory, Text};
-use lx_top::{read_up_to, write_whole};
 use std::alloc::Global;
 use std::io::{Error, ErrorKind, Read, Result as IoResult, Write};
 

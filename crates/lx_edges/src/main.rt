@@ -10,9 +10,9 @@ mod words;
 
 use files::show_files;
 use forms::{show_readers, show_writers};
+use lx_command::StdConsole;
 use lx_outside::Console;
 use lx_text::{NoMemory, Text};
-use lx_top::StdConsole;
 use std::alloc::Global;
 use std::env::Env;
 use std::io::Write;

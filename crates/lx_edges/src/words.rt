@@ -1,8 +1,8 @@
 //! The words of the command line.
 
 use crate::showing::show;
+use lx_command::{GivenArguments, arguments};
 use lx_text::{NoMemory, Text};
-use lx_top::{GivenArguments, arguments};
 use std::alloc::Global;
 use std::env::Env;
 

@@ -1,35 +1,60 @@
 //! The lines of the cases.
 //!
-//! `== NAME` begins a case, in which nothing is declared and no work is spent. Each other line is a question or declares
-//! something, and is written again with its answer behind it. A line that begins with `#` and an empty one say nothing.
+//! `== NAME` begins a case, in which nothing is declared or wished and no work is spent. In it stand wishes (`wishes`), and
+//! `placed` asks where they go; `nodes` asks for the values and shapes of a few nodes. Each other line is a question or
+//! declares something, and is written again with its answer behind it. A line that begins with `#` and an empty one say
+//! nothing.
 
 use crate::arguments::{self, Case};
+use crate::placing::show_placed;
 use crate::reading::cut;
+use crate::shapes::show_shapes;
+use crate::values::{show_condition, show_constant};
+use crate::wishes::{add_wish, no_wishes};
 use crate::{numbers, outside, tables, texts};
+use lx_fhdl::Wishes;
 use lx_text::{NoMemory, Text};
 use std::alloc::Global;
 
 /// Runs all cases, one after the other.
 pub(crate) fn run_all(alloc: Global, source: &[u8], out: &mut Text) -> Result<(), NoMemory> {
     let mut case = Case::new(alloc);
+    let mut wishes = no_wishes(alloc);
     for line in source.split(|byte| *byte == b'\n') {
         if let [b'=', b'=', ..] = line {
             case = Case::new(alloc);
+            wishes = no_wishes(alloc);
         }
-        run_line(alloc, line, &mut case, out)?;
+        if !add_wish(alloc, line, &mut wishes)? {
+            run_line(alloc, line, &wishes, &mut case, out)?;
+        }
     }
     Ok(())
 }
 
-fn run_line(alloc: Global, line: &[u8], case: &mut Case, out: &mut Text) -> Result<(), NoMemory> {
+fn run_line(
+    alloc: Global,
+    line: &[u8],
+    wishes: &Wishes,
+    case: &mut Case,
+    out: &mut Text,
+) -> Result<(), NoMemory> {
     match line {
         [] | [b'#', ..] => Ok(()),
         [b'=', b'=', ..] => {
             out.word(line)?;
             out.word(b"\n")
         }
+        b"placed" => show_placed(alloc, wishes, out),
+        b"nodes" => show_nodes(alloc, out),
         _ => run_question(alloc, line, case, out),
     }
+}
+
+fn show_nodes(alloc: Global, out: &mut Text) -> Result<(), NoMemory> {
+    show_constant(alloc, out)?;
+    show_condition(alloc, out)?;
+    show_shapes(out)
 }
 
 fn run_question(

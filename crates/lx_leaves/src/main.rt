@@ -1,14 +1,18 @@
-//! Runs the cases of the lowest layers that stand on standard input, and writes what comes of each: numbers, tables,
-//! texts, arguments, and files in memory. `stdout` holds what must come.
+//! Runs the cases of the lower layers that stand on standard input, and writes what comes of each: numbers, tables, texts,
+//! arguments, files in memory, nodes of expressions, and placement. `stdout` holds what must come.
 #![tactic(auto)]
 
 mod arguments;
 mod lines;
 mod numbers;
 mod outside;
+mod placing;
 mod reading;
+mod shapes;
 mod tables;
 mod texts;
+mod values;
+mod wishes;
 
 use lines::run_all;
 use lx_text::{NoMemory, Text};

@@ -52,32 +52,43 @@ fn show_hex(rest: &str, out: &mut Text) -> Result<bool, NoMemory> {
 }
 
 fn show_work(alloc: Global, rest: &str, out: &mut Text) -> Result<bool, NoMemory> {
-    show_fault(alloc, rest, Kind::Limit(LimitKind::Work), out)
+    let Some(line) = number(rest) else {
+        return Ok(false);
+    };
+    let kind = Kind::Limit(LimitKind::Work);
+    show_fault(alloc, Fault { line, kind }, out)
 }
 
 fn show_drivers(alloc: Global, rest: &str, out: &mut Text) -> Result<bool, NoMemory> {
     let (line, rest) = cut(rest);
     let (name, other) = cut(rest);
+    let Some(line) = number(line) else {
+        return Ok(false);
+    };
     let Some(other) = number(other) else {
         return Ok(false);
     };
     let name = Word::new(alloc, name.as_bytes())?;
-    show_fault(alloc, line, Kind::TwoDrivers(name, other), out)
+    let kind = Kind::TwoDrivers(name, other);
+    show_fault(alloc, Fault { line, kind }, out)
 }
 
 fn show_loop(alloc: Global, rest: &str, out: &mut Text) -> Result<bool, NoMemory> {
     let (line, names) = cut(rest);
-    let names = words(alloc, names)?;
-    show_fault(alloc, line, Kind::CombLoop(names), out)
-}
-
-// The line of a fault in the file `f.py`, without its line end.
-fn show_fault(alloc: Global, line: &str, kind: Kind, out: &mut Text) -> Result<bool, NoMemory> {
     let Some(line) = number(line) else {
         return Ok(false);
     };
-    let fault = Fault { line, kind };
-    let text = fault_line(alloc, b"f.py", &fault)?;
+    let kind = Kind::CombLoop(words(alloc, names)?);
+    show_fault(alloc, Fault { line, kind }, out)
+}
+
+fn show_fault(alloc: Global, fault: Fault, out: &mut Text) -> Result<bool, NoMemory> {
+    put_fault(alloc, &fault, out)
+}
+
+// The line of a fault in the file `f.py`, without its line end.
+fn put_fault(alloc: Global, fault: &Fault, out: &mut Text) -> Result<bool, NoMemory> {
+    let text = fault_line(alloc, b"f.py", fault)?;
     match text.as_bytes() {
         [shown @ .., b'\n'] => answer(out, shown),
         _ => Ok(false),

@@ -38,13 +38,6 @@ fn put_dedents(
     Ok(())
 }
 
-// Want of memory as a refusal.
-fn no_memory(_error: NoMemory) -> Refusal
-    ensures { result ≡ Refusal.NoMemory }
-{
-    Refusal::NoMemory
-}
-
 // The fault as a refusal.
 fn refused<T>(fault: Fault) -> Result<T, Refusal>
     ensures { result ≡ Err (Refusal.Fault fault) }
@@ -117,8 +110,7 @@ impl Lines {
         if self.width > self.levels.innermost() {
             if self.levels.len() < MOST_LEVELS {
                 self.tokens
-                    .push(token_at(TokenKind::Indent, place, 0, line))
-                    .map_err(no_memory)?;
+                    .push(token_at(TokenKind::Indent, place, 0, line))?;
                 self.levels.push(self.width);
                 Ok(())
             } else {
@@ -138,7 +130,7 @@ impl Lines {
         let left = self.levels.within(self.width);
         self.levels.keep(left);
         if self.levels.innermost() == self.width {
-            put_dedents(&mut self.tokens, count - left, place, line).map_err(no_memory)?;
+            put_dedents(&mut self.tokens, count - left, place, line)?;
             Ok(())
         } else {
             refused(fault_at(line, Kind::BadIndent))
@@ -163,6 +155,39 @@ impl Lines {
         }
     }
 
+    // The piece that ends a line.
+    #[tactic(auto, unfolding(crate::specs::Machine::take_piece))]
+    fn take_end(&mut self, token: Token) -> Result<(), Refusal>
+        ensures { Gives result self.new (take_piece (Piece.LineEnd token) self.old) }
+    {
+        self.line_end(token)?;
+        Ok(())
+    }
+
+    // A piece that is a token.
+    #[tactic(auto, unfolding(crate::specs::Machine::take_piece))]
+    fn take_whole(&mut self, token: Token) -> Result<(), Refusal>
+        ensures { Gives result self.new (take_piece (Piece.Whole token) self.old) }
+    {
+        self.begin_line(token.start, token.line)?;
+        self.put_token(token)?;
+        Ok(())
+    }
+
+    // A piece with a fault.
+    #[tactic(auto, unfolding(crate::specs::Machine::take_piece))]
+    fn take_wrong(&mut self, line: u32, fault: Fault) -> Result<(), Refusal>
+        ensures { Gives result self.new (take_piece (Piece.Wrong line fault) self.old) }
+    {
+        match self.begin_line(0, line) {
+            Ok(()) => refused(fault),
+            Err(first) => {
+                drop(fault);
+                Err(first)
+            }
+        }
+    }
+
     // One more piece.
     #[tactic(auto, unfolding(crate::specs::Machine::take_piece))]
     pub(crate) fn take(&mut self, piece: Piece) -> Result<(), Refusal>
@@ -170,19 +195,18 @@ impl Lines {
         ensures { Gives result self.new (take_piece piece self.old) }
     {
         match piece {
-            Piece::Blank => self.blank(),
-            Piece::Tab(line) => self.tab(line),
-            Piece::LineEnd(token) => self.line_end(token).map_err(no_memory)?,
-            Piece::Whole(token) => {
-                self.begin_line(token.start, token.line)?;
-                self.put_token(token).map_err(no_memory)?;
+            Piece::Blank => {
+                self.blank();
+                Ok(())
             }
-            Piece::Wrong(line, fault) => {
-                self.begin_line(0, line)?;
-                return refused(fault);
+            Piece::Tab(line) => {
+                self.tab(line);
+                Ok(())
             }
+            Piece::LineEnd(token) => self.take_end(token),
+            Piece::Whole(token) => self.take_whole(token),
+            Piece::Wrong(line, fault) => self.take_wrong(line, fault),
         }
-        Ok(())
     }
 
     // The end of the last line, which may have no LF.

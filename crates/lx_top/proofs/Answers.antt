@@ -6,10 +6,10 @@ use Rattle.lx_grammar.specs.Derives.{Tree, IsTreeOf}
 use Rattle.lx_grammar.specs.Signs.{item_of}
 use Rattle.lx_grammar.proofs.Guided.{one_tree}
 use Rattle.lx_form.specs.declared.file.File.{File}
-use Rattle.lx_top.specs.Commands.{Build, Map, Sim, Poke, Gen}
-use Rattle.lx_top.specs.Judging.{IsReadable, HasTextFault, has_class}
+use Rattle.lx_command.specs.Commands.{Build, Map, Sim, Poke, Gen}
+use Rattle.lx_command.specs.Judging.{IsReadable, HasTextFault, has_class}
 use Rattle.lx_top.specs.Meaning.{Meaning, Built}
-use Rattle.lx_top.specs.Next.{Next, Then, SameNext}
+use Rattle.lx_command.specs.Next.{Next, Then, SameNext}
 use Rattle.lx_top.specs.Table.{IsOneAnswerLaw}
 
 -- a readable text has no fault

@@ -1,9 +1,10 @@
 -- Where nothing fails and the command comes to no fault, a run is done or out of memory.
 use Rattle.std.proofs.Common.{◌≡◌, ℕ, List, Option, Some, refl, subst, inl, inr, ◌⊎◌}
-use Rattle.lx_top.specs.declared.status.Status.{Status}
-use Rattle.lx_top.specs.declared.status.Status.TheVariants as status
-use Rattle.lx_top.specs.Commands.{Asked}
-use Rattle.lx_top.specs.Outcome.{World, EndsBy}
+use Rattle.lx_command.specs.declared.status.Status.{Status}
+use Rattle.lx_command.specs.declared.status.Status.TheVariants as status
+use Rattle.lx_command.specs.Commands.{Asked}
+use Rattle.lx_command.specs.World.{World}
+use Rattle.lx_top.specs.Outcome.{EndsBy}
 use Rattle.lx_top.specs.Completeness.{IsSound, IsClean, IsCompletenessLaw}
 
 by_command : (words : List (List ℕ)) (a b : World) (c : Asked) (s : Status) → IsSound words a b → IsClean a.files c → EndsBy (Some c) a b s → (s ≡ status.Done) ⊎ (s ≡ status.NoMemory)

@@ -3,10 +3,11 @@ use Rattle.std.proofs.Common.{◌≡◌, ℕ, List, [], ◌∷◌, ◌++◌, len
 use Rattle.lx_outside.specs.declared.calls.Pair.{Pair}
 use Rattle.lx_outside.specs.Calls.{file_of}
 use Rattle.lx_text.specs.declared.faults.Fault.{Fault}
-use Rattle.lx_top.specs.Commands.{Asked}
-use Rattle.lx_top.specs.Next.{Next, Wants, Refuses, Gives, SameNext}
+use Rattle.lx_command.specs.Commands.{Asked}
+use Rattle.lx_command.specs.Next.{Next, Wants, Refuses, Gives, SameNext}
 use Rattle.lx_top.specs.Table.{Step}
-use Rattle.lx_top.specs.Outcome.{LacksFile, IsLongFile, IsLoaded, Reached, Comes, IsAtFault}
+use Rattle.lx_command.specs.World.{LacksFile, IsLongFile}
+use Rattle.lx_top.specs.Outcome.{IsLoaded, Reached, Comes, IsAtFault}
 use Rattle.lx_top.specs.Completeness.{IsGivingLaw}
 use Rattle.lx_top.proofs.Answers.{one_answer}
 

@@ -3,11 +3,12 @@ use Rattle.std.specs.Prelude.{◌≡◌, ℕ, List, Option, Some, ◌⊎◌}
 use Rattle.lx_outside.specs.declared.calls.Pair.{Pair}
 use Rattle.lx_outside.specs.Calls.{Rose}
 use Rattle.lx_text.specs.declared.faults.Fault.{Fault}
-use Rattle.lx_top.specs.declared.status.Status.{Status}
-use Rattle.lx_top.specs.declared.status.Status.TheVariants as status
-use Rattle.lx_top.specs.Commands.{Asked, command_of}
-use Rattle.lx_top.specs.Next.{Wants, Gives}
-use Rattle.lx_top.specs.Outcome.{World, Comes, LacksFile, IsAtFault, Ends}
+use Rattle.lx_command.specs.declared.status.Status.{Status}
+use Rattle.lx_command.specs.declared.status.Status.TheVariants as status
+use Rattle.lx_command.specs.Commands.{Asked, command_of}
+use Rattle.lx_command.specs.Next.{Wants, Gives}
+use Rattle.lx_command.specs.World.{World, LacksFile}
+use Rattle.lx_top.specs.Outcome.{Comes, IsAtFault, Ends}
 
 -- no file that the command comes to want is lacking, and the command comes to no fault
 pub record IsClean (told : Option (List Pair)) (c : Asked) : Type 0 where

@@ -1,11 +1,5 @@
-pub mod Commands
 pub mod Completeness
-pub mod Judging
-pub mod Lines
 pub mod Making
 pub mod Meaning
-pub mod Next
 pub mod Outcome
-pub mod Reading
-pub mod Status
 pub mod Table

@@ -5,9 +5,9 @@ use Rattle.lx_text.specs.declared.faults.Fault.{Fault}
 use Rattle.lx_form.specs.declared.file.File.{File}
 use Rattle.lx_form.specs.Form.{Says, HasNoForm}
 use Rattle.lx_translate.specs.Translation.{IsTextOf}
-use Rattle.lx_top.specs.Judging.{IsReadable, HasTextFault}
-use Rattle.lx_top.specs.Lines.{build_files, summary_text, not_built}
-use Rattle.lx_top.specs.Next.{Next, Gives}
+use Rattle.lx_command.specs.Judging.{IsReadable, HasTextFault}
+use Rattle.lx_command.specs.Lines.{build_files, summary_text, not_built}
+use Rattle.lx_command.specs.Next.{Next, Gives}
 
 -- a text without a fault that spells no description which is built yet
 pub record IsNotBuilt (bytes : List ℕ) (f : Fault) : Type 0 where

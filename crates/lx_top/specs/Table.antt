@@ -1,10 +1,10 @@
 -- The table of commands.
 use Rattle.std.specs.Prelude.{◌≡◌, ℕ, List, [], ◌∷◌}
 use Rattle.lx_text.specs.Limits.{max_bytes}
-use Rattle.lx_top.specs.Commands.{Asked, Build, command_word}
-use Rattle.lx_top.specs.Lines.{not_built}
+use Rattle.lx_command.specs.Commands.{Asked, Build, command_word}
+use Rattle.lx_command.specs.Lines.{not_built}
 use Rattle.lx_top.specs.Meaning.{Meaning, Built}
-use Rattle.lx_top.specs.Next.{Next, Wants, Refuses, Then, SameNext}
+use Rattle.lx_command.specs.Next.{Next, Wants, Refuses, Then, SameNext}
 
 -- What a command does next, once it has loaded these files, the last one first. A command that isn't built yet loads none.
 abbrev pub Step : Asked → List (List ℕ) → Next → Type 0

@@ -1,11 +1,7 @@
 //! The whole program, over the outside as it is.
 
-use crate::command_line::{GivenArguments, arguments};
-use crate::files::{FileSink, FileSource};
-use crate::lines::{Line, tell};
 use crate::run::lxb;
-use crate::status::Status;
-use crate::writers::StdConsole;
+use lx_command::{FileSink, FileSource, GivenArguments, Line, Status, StdConsole, arguments, tell};
 use lx_text::NoMemory;
 use std::alloc::Global;
 use std::env::Env;

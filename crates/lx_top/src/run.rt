@@ -2,16 +2,16 @@
 
 ghost use Rattle.std.specs.Prelude.{◌≡◌, ℕ, List, [], Some};
 ghost use Rattle.lx_text.specs.declared.faults.Fault.{Fault};
-ghost use Rattle.lx_top.specs.Commands.{Asked, command_of};
-ghost use Rattle.lx_top.specs.Next.{Refuses};
-ghost use Rattle.lx_top.specs.Outcome.{Ends, world};
+ghost use Rattle.lx_command.specs.Commands.{Asked, command_of};
+ghost use Rattle.lx_command.specs.Next.{Refuses};
+ghost use Rattle.lx_command.specs.World.{world};
+ghost use Rattle.lx_top.specs.Outcome.{Ends};
 ghost use Rattle.lx_top.specs.Table.{Step};
 
-use crate::commands::read_command;
-use crate::delivering::{deliver, report};
-use crate::lines::{Line, tell};
 use crate::making::make;
-use crate::status::Status;
+use lx_command::commands::read_command;
+use lx_command::delivering::{deliver, report};
+use lx_command::{Line, Status, tell};
 use lx_outside::{Console, Sink, Source};
 use lx_text::Word;
 use std::alloc::Global;

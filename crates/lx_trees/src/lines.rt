@@ -3,10 +3,11 @@
 //! In a text, blanks stand between the tokens, and NL, IN, DE and END for those that have no text of their own.
 //! `line TEXT` asks for the nodes of a line of `__init__`; `text TEXT` whether a text has a tree; `fault TEXT` for the
 //! number and the line of its fault; `chain COUNT TEXT` whether a line has a tree that is so many times this text and
-//! then `c`; `described` whether the lines before it have one, which stand behind a blank. A line that begins with `#` or
-//! `==` is a heading, and an empty one says nothing.
+//! then `c`; `described` whether the lines before it have one, which stand behind a blank; `said` for what the nodes and
+//! classes of those lines say. A line that begins with `#` or `==` is a heading, and an empty one says nothing.
 
-use crate::showing::{has_tree, show_fault, show_line, show_truth};
+use crate::sheet::put_said;
+use crate::showing::{faultless, has_tree, show_fault, show_line, show_truth};
 use crate::tokens::{tokens_of, with_line};
 use lx_text::{NoMemory, Text};
 use lx_token::tokens::tokens;
@@ -27,6 +28,7 @@ fn run_line(alloc: Global, line: &[u8], file: &mut Text, out: &mut Text) -> Resu
         [b'#', ..] | [b'=', b'=', ..] => put_line(line, out),
         [b' ', text @ ..] => put_line(text, file),
         b"described" => show_described(alloc, std::mem::replace(file, Text::new(alloc)), out),
+        b"said" => show_said(alloc, std::mem::replace(file, Text::new(alloc)), out),
         _ => run_question(alloc, line, out),
     }
 }
@@ -38,10 +40,15 @@ fn put_line(line: &[u8], out: &mut Text) -> Result<(), NoMemory> {
 
 fn show_described(alloc: Global, file: Text, out: &mut Text) -> Result<(), NoMemory> {
     out.word(b"described:")?;
-    match tokens(alloc, file.as_bytes()) {
-        Ok(tokens) => show_truth(has_tree(alloc, file.as_bytes(), &tokens)?, out),
-        Err(_) => put_line(b" no tokens", out),
+    match faultless(tokens(alloc, file.as_bytes()))? {
+        Some(tokens) => show_truth(has_tree(alloc, file.as_bytes(), &tokens)?, out),
+        None => put_line(b" no tokens", out),
     }
+}
+
+fn show_said(alloc: Global, file: Text, out: &mut Text) -> Result<(), NoMemory> {
+    out.word(b"said:\n")?;
+    put_said(alloc, file.as_bytes(), out)
 }
 
 fn run_question(alloc: Global, line: &[u8], out: &mut Text) -> Result<(), NoMemory> {

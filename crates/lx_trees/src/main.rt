@@ -1,9 +1,13 @@
-//! Reads the texts that stand on standard input, and writes the nodes of their trees, or that there is none. `stdout`
-//! holds what must come.
+//! Reads the texts that stand on standard input, and writes the nodes of their trees, or that there is none, and what the
+//! nodes and classes of a description say. `stdout` holds what must come.
 #![tactic(auto)]
 
+mod exprs;
 mod lines;
+mod pieces;
+mod sheet;
 mod showing;
+mod stmts;
 mod tokens;
 
 use lines::run_all;

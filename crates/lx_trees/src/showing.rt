@@ -6,13 +6,19 @@ use lx_text::{Fault, Kind, List, NoMemory, Refusal, Text};
 use lx_token::Token;
 use std::alloc::Global;
 
-/// Whether a text has a tree.
-pub(crate) fn has_tree(alloc: Global, text: &[u8], tokens: &List<Token>) -> Result<bool, NoMemory> {
-    match read(alloc, text, tokens) {
-        Ok(_tree) => Ok(true),
-        Err(Refusal::Fault(_)) => Ok(false),
+/// What was read; nothing where there is a fault.
+pub(crate) fn faultless<T: Drop>(read: Result<T, Refusal>) -> Result<Option<T>, NoMemory> {
+    match read {
+        Ok(value) => Ok(Some(value)),
+        Err(Refusal::Fault(_)) => Ok(None),
         Err(Refusal::NoMemory) => Err(NoMemory),
     }
+}
+
+/// Whether a text has a tree.
+pub(crate) fn has_tree(alloc: Global, text: &[u8], tokens: &List<Token>) -> Result<bool, NoMemory> {
+    let tree = faultless(read(alloc, text, tokens))?;
+    Ok(tree.is_some())
 }
 
 /// Whether there is a tree.
@@ -31,10 +37,9 @@ pub(crate) fn show_line(
     tokens: &List<Token>,
     out: &mut Text,
 ) -> Result<(), NoMemory> {
-    match read(alloc, text.as_bytes(), tokens) {
-        Ok(tree) => show_tree(alloc, text.as_bytes(), &tree, out),
-        Err(Refusal::Fault(_)) => show_truth(false, out),
-        Err(Refusal::NoMemory) => Err(NoMemory),
+    match faultless(read(alloc, text.as_bytes(), tokens))? {
+        Some(tree) => show_tree(alloc, text.as_bytes(), &tree, out),
+        None => show_truth(false, out),
     }
 }
 

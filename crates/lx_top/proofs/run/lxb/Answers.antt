@@ -1,5 +1,5 @@
-use Rattle.lx_top.specs.Commands.{asked_of, command_of}
-use Rattle.lx_top.specs.Outcome.{world}
+use Rattle.lx_command.specs.Commands.{asked_of, command_of}
+use Rattle.lx_command.specs.World.{world}
 use Rattle.lx_top.proofs.Endings.{ends_delivered}
 use Rattle.lx_top.proofs.run.lxb.Goals as goal
 

@@ -1,0 +1,5 @@
+pub mod Classes
+pub mod Deliveries
+pub mod Edges
+pub mod LineLemmas
+pub mod Syntax

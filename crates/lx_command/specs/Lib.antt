@@ -1,0 +1,9 @@
+pub mod Commands
+pub mod Delivery
+pub mod Fetching
+pub mod Judging
+pub mod Lines
+pub mod Next
+pub mod Reading
+pub mod Status
+pub mod World

@@ -1,0 +1,13 @@
+-- The numbers of the statuses.
+use Rattle.std.specs.Prelude.{ℕ}
+use Rattle.lx_command.specs.declared.status.Status.{Status}
+use Rattle.lx_command.specs.declared.status.Status.TheVariants as status
+
+-- the exit status of a run that ended so
+abbrev pub number_of : Status → ℕ
+number_of status.Done = 0
+number_of status.Refused = 1
+number_of status.Usage = 2
+number_of status.ReadFault = 3
+number_of status.WriteFault = 4
+number_of status.NoMemory = 5
