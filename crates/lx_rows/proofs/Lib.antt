@@ -1,2 +1,3 @@
 pub mod OperatorTexts
 pub mod Whole
+pub mod Forms

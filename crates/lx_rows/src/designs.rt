@@ -8,7 +8,9 @@ ghost use Rattle.lx_vtext.specs.Printed.{module_text};
 ghost use Rattle.lx_emission.specs.Instance as designs;
 ghost use Rattle.lx_write.specs.Writes.{CanBeWritten};
 
-use lx_arena::{Arena, Id};
+use crate::each_form::unsigned;
+use crate::nodes::{the_expr, the_stmt, the_target};
+use lx_arena::Arena;
 use lx_emission::{swap_law, swap_text_law, toggle_law, toggle_text_law};
 use lx_emit::emit_design;
 use lx_fhdl::{
@@ -21,52 +23,6 @@ use lx_text::{List, NoMemory, Text, Word};
 use lx_vprint::print;
 use lx_write::write_module;
 use std::alloc::Global;
-use std::marker::PhantomData;
-
-fn the_expr(place: usize) -> ExprId
-    ensures { result ≡ instance.the_expr place }
-{
-    Id {
-        place,
-        of: PhantomData,
-    }
-}
-
-fn the_target(place: usize) -> TargetId
-    ensures { result ≡ instance.the_target place }
-{
-    Id {
-        place,
-        of: PhantomData,
-    }
-}
-
-fn the_stmt(place: usize) -> StmtId
-    ensures { result ≡ instance.the_stmt place }
-{
-    Id {
-        place,
-        of: PhantomData,
-    }
-}
-
-// An unsigned signal.
-fn unsigned(alloc: Global, name: &[u8], bits: u8, reset: u8) -> Result<Signal, NoMemory>
-    ensures { IfOk result (λ signal. signal ≡ instance.signal_of name.now bits reset) }
-{
-    let word = Word::new(alloc, name)?;
-    Ok(Signal {
-        path: List::of_one(alloc, word)?,
-        shape: Shape {
-            bits,
-            signed: false,
-        },
-        reset: reset as i128,
-        reset_less: false,
-        by_bus: false,
-        line: 0,
-    })
-}
 
 #[tactic(auto, unfolding(lx_emission::specs::Instance::toggle_exprs))]
 fn toggle_exprs(alloc: Global) -> Result<Exprs, NoMemory>

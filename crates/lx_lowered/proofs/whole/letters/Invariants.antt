@@ -1,5 +1,0 @@
-use Rattle.std.proofs.Common.{◌≡◌, take, map, ◌∷◌, []}
-use Rattle.lx_lowered.proofs.whole.letters.Given as goal
-
-abbrev pub invariant-loop-name : goal.invariant-loop-name
-invariant-loop-name l = l.words ≡ map (λ name. name ∷ []) (take l.name-index l.names)

@@ -1,0 +1,6 @@
+use Rattle.std.proofs.Common.{◌≡◌, take, map}
+use Rattle.lx_fhdl.specs.Instance as instance
+use Rattle.lx_rows.proofs.nodes.the_targets.Given as goal
+
+abbrev pub invariant-loop-place : goal.invariant-loop-place
+invariant-loop-place l = l.ids ≡ map instance.the_target (take l.place-index l.places)
