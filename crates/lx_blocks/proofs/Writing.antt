@@ -1,9 +1,9 @@
 -- What the ports of memories write.
-use Rattle.std.proofs.Common.{◌≡◌, ℕ, zero, suc, ◌+◌, ◌<◌, ◌≤◌, ◌^◌, Bool, true, false, ◌&&◌, cond, append_assoc, nat_lt, List, [], ◌∷◌, ◌++◌, length, map, flat_map, take, nat_eq, nat_le, lt-ltb, refl, sym, ap, subst, ◌∙◌, arith}
+use Rattle.std.proofs.Common.{◌≡◌, ℕ, ◌+◌, ◌<◌, ◌≤◌, ◌^◌, Bool, true, false, ◌&&◌, cond, append_assoc, nat_lt, List, [], ◌∷◌, ◌++◌, length, map, flat_map, take, nat_eq, nat_le, lt-ltb, refl, sym, ap, subst, ◌∙◌, arith}
 use Rattle.std.specs.Prelude.{Result, IfOk, Option, Some, None, is_some, slice_get, IsTrue, IsSomeAnd}
 use Rattle.std.specs.List.{range_with_len}
 use Rattle.std.proofs.lemmas.Bool.{and_from, and_parts}
-use Rattle.std.proofs.lemmas.List.{append-nil, take_more}
+use Rattle.std.proofs.lemmas.List.{append-nil, take_more, take_all}
 use Rattle.std.proofs.lemmas.List.FromFn.{map-range_with_len_more}
 use Rattle.std.proofs.lemmas.Grind.{flat_map-append}
 use Rattle.lx_vtext.specs.Tree.{Name}
@@ -27,8 +27,7 @@ use Rattle.lx_sheet.specs.Plans.{Plan, net_in}
 use Rattle.lx_blocks.specs.Writes.{IsWrite, bound_text, bounded_in, memory_always_in, memory_body_in, part_in, parts_in, port_in, write_in, writes_in}
 use Rattle.lx_blocks.specs.declared.writes.Write.{Write}
 use Rattle.lx_blocks.proofs.Grown.{before_end, stmts_more, when_put}
-use Rattle.lx_sheet.proofs.Texts.{index_is}
-use Rattle.std.proofs.lemmas.Option.{slice_get_within}
+use Rattle.std.proofs.lemmas.Option.{slice_get_within, get_or_from_slice_get}
 use Rattle.lx_sheet.proofs.Remembered.{memory_is}
 use Rattle.lx_blocks.proofs.Resets.{no_else, stmts_block}
 use Rattle.lx_circuit.specs.Memories as memory
@@ -189,7 +188,7 @@ stmts_then n0 n1 n2 xs ys zs ts us p q = record {
 one_port : (p : Plan) (k j : ℕ) (q : Port) → slice_get p.design.ports j ≡ Some q → flat_map (port_in p k) (take (j + 1) p.design.ports) ≡ flat_map (port_in p k) (take j p.design.ports) ++ port_in p k q
 one_port p k j q e =
     let l = slice_get_within p.design.ports j q e in
-    ap (flat_map (port_in p k)) (take_more p.design.ports j q l ∙ ap (λ (r : Port). take j p.design.ports ++ r ∷ []) (index_is p.design.ports j q q e))
+    ap (flat_map (port_in p k)) (take_more p.design.ports j q l ∙ ap (λ (r : Port). take j p.design.ports ++ r ∷ []) (get_or_from_slice_get p.design.ports j q q e))
     ∙ flat_map-append (port_in p k) (take j p.design.ports) (q ∷ [])
     ∙ ap (λ (ts : List tree.VStmt). flat_map (port_in p k) (take j p.design.ports) ++ ts) (append-nil (port_in p k q))
 
@@ -197,12 +196,6 @@ pub ports_next : (n0 n1 n2 : NodeLists) (xs ys zs : List StmtRef) (p : Plan) (k 
     → PutStmts n1 n2 ys zs (port_in p k q) → PutStmts n0 n2 xs zs (flat_map (port_in p k) (take (j + 1) p.design.ports))
 ports_next n0 n1 n2 xs ys zs p k j q e h g =
     subst (λ (ts : List tree.VStmt). PutStmts n0 n2 xs zs ts) (sym (one_port p k j q e)) (stmts_then n0 n1 n2 xs ys zs (flat_map (port_in p k) (take j p.design.ports)) (port_in p k q) h g)
-
-take_all : {T : Type 0} (xs : List T) (n : ℕ) → length xs ≤ n → take n xs ≡ xs
-take_all [] zero l = refl
-take_all [] (suc n) l = refl
-take_all (x ∷ xs) zero l = absurd (omega arith)
-take_all (x ∷ xs) (suc n) l = ap (λ (ys : List _). x ∷ ys) (take_all xs n (omega arith))
 
 mapped : {A B C : Type 0} (f : B → List C) (g : A → B) (xs : List A) → flat_map (λ x. f (g x)) xs ≡ flat_map f (map g xs)
 mapped f g [] = refl
@@ -212,7 +205,7 @@ pub body_is : (n0 n1 : NodeLists) (before after : List StmtRef) (p : Plan) (k n 
 unfolding memory_body circuit_of
 body_is n0 n1 before after p k n none l h =
     let all = flat_map (port_in p k) (take n p.design.ports) in
-    let same : all ≡ flat_map (port_text p.design p.names k) (map port_of p.design.ports) = ap (flat_map (port_in p k)) (take_all p.design.ports n l) ∙ mapped (port_text p.design p.names k) port_of p.design.ports in
+    let same : all ≡ flat_map (port_text p.design p.names k) (map port_of p.design.ports) = ap (flat_map (port_in p k)) (take_all n p.design.ports l) ∙ mapped (port_text p.design p.names k) port_of p.design.ports in
     subst (λ (b : tree.VBlock). PutBlock n0 n1 after b) (ends_block all ∙ ap block_of same) (stmts_block n0 n1 before after all none h)
 
 -- ---- the clock

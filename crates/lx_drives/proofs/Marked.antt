@@ -1,7 +1,7 @@
 -- The signals that are marked as ports.
 use Rattle.std.proofs.Common.{◌≡◌, ℕ, zero, suc, ◌+◌, ◌<◌, Bool, true, false, ◌||◌, List, [], ◌∷◌, ◌++◌, Option, Some, None, length, get_or, set, map, take, replicate, refl, sym, ◌∙◌, ap, subst, nat_eq, arith, eq-eqb}
 use Rattle.std.specs.Prelude.{option_map, slice_get, IfSome}
-use Rattle.std.proofs.Math.Bool.{or-false, or_assoc}
+use Rattle.std.proofs.Math.Bool.{or-false, or_assoc, or-true}
 use Rattle.std.proofs.lemmas.Bool.{eqb-true, true≢false}
 use Rattle.std.proofs.lemmas.List.{get_or-set_same, get_or-set_other, get_or_default, length-replicate, length-set, take_more}
 use Rattle.lx_circuit.specs.Circuit.{is_among, is_named}
@@ -14,17 +14,14 @@ use Rattle.lx_sheet.specs.Marks.{AreMarksOf, AreMarks, is_marked}
 use Rattle.lx_drives.specs.Marks.{AreAmong, AreResetsToo, IsMarkedToo, some_reset}
 use Rattle.lx_width.proofs.Ends.{item_there}
 use Rattle.lx_drives.proofs.Owners.{port_is}
-use Rattle.lx_sheet.proofs.Starts.{each_of, reset_there}
+use Rattle.lx_sheet.proofs.Starts.{reset_there}
+use Rattle.lx_fhdl.proofs.Resets.{each_of_at}
 
 marked : (marks : List Bool) (y x : ℕ) → y < length marks → is_marked (set marks y true) x ≡ (is_marked marks x || nat_eq y x)
 marked marks y x l = by_answer (nat_eq y x) refl
   where
     by_answer : (b : Bool) → nat_eq y x ≡ b → is_marked (set marks y true) x ≡ (is_marked marks x || b)
-    by_answer true e = ap (is_marked (set marks y true)) (sym (eqb-true y x e)) ∙ get_or-set_same marks y true false l ∙ sym (or_true (is_marked marks x))
-      where
-        or_true : (b : Bool) → (b || true) ≡ true
-        or_true true = refl
-        or_true false = refl
+    by_answer true e = ap (is_marked (set marks y true)) (sym (eqb-true y x e)) ∙ get_or-set_same marks y true false l ∙ sym (or-true (is_marked marks x))
     by_answer false e = get_or-set_other marks y x true false (λ p. true≢false (sym (eq-eqb y x (sym p)) ∙ e)) ∙ sym (or-false (is_marked marks x))
 
 mark_more : (d : Design) (test more : ℕ → Bool) (marks : List Bool) (y : ℕ) → y < length d.signals → AreMarksOf d test marks → ((x : ℕ) → (test x || nat_eq y x) ≡ more x) → AreMarksOf d more (set marks y true)
@@ -49,7 +46,7 @@ among_none d marks e = record {
 }
 
 pub io_there : (d : Design) (k : ℕ) (y : SigId) → Keeps d → slice_get d.ios k ≡ Some y → y.0 < length d.signals
-io_there d k y keeps e = each_of (λ (x : SigId). x.0 < length d.signals) d.ios k y keeps.ios e
+io_there d k y keeps e = each_of_at (λ (x : SigId). x.0 < length d.signals) d.ios keeps.ios k y e
 
 pub io_within : (d : Design) (k : ℕ) (ios : List SigId) (z : SigId) → Keeps d → ios ≡ d.ios → k < length ios → (get_or ios k z).0 < length d.signals
 io_within d k ios z keeps same l = io_there d k (get_or ios k z) keeps (item_there ios d.ios k (get_or ios k z) same l (get_or_default ios k z (get_or ios k z) l))

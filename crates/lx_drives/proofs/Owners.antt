@@ -1,13 +1,13 @@
 -- Statements with their signals, and what drives a signal.
-use Rattle.std.proofs.Common.{◌≡◌, ◌≢◌, ℕ, zero, suc, ◌+◌, ◌-◌, ◌<◌, ◌≤◌, Bool, true, false, ◌&&◌, ◌||◌, cond, not, List, [], ◌∷◌, ◌++◌, Option, Some, None, length, get_or, set, map, take, drop, add-one, refl, sym, ◌∙◌, ap, subst, nat_eq, arith, below_more, eq-eqb, ne_eqb}
+use Rattle.std.proofs.Common.{◌≡◌, ◌≢◌, ℕ, ◌+◌, ◌-◌, ◌<◌, ◌≤◌, Bool, true, false, ◌&&◌, ◌||◌, cond, not, List, [], ◌∷◌, ◌++◌, Option, Some, None, length, get_or, set, map, take, drop, add-one, refl, sym, ◌∙◌, ap, subst, nat_eq, arith, below_more, eq-eqb, ne_eqb}
 use Rattle.std.specs.Prelude.{slice_get, slice_index_or, option_map}
 use Rattle.std.proofs.lemmas.Bool.{eqb-true, true≢false}
-use Rattle.std.proofs.lemmas.List.{append-nil, get_or-set_same, get_or-set_other, get_or_default, length-append, length-set, take_more}
+use Rattle.std.proofs.lemmas.List.{append-nil, get_or-set_same, get_or-set_other, get_or_default, length-append, length-set, take_more, drop_all}
 use Rattle.std.proofs.Math.Seq.{drop-cons}
 use Rattle.lx_circuit.specs.Statements.{drives, drives_block}
 use Rattle.lx_circuit.specs.Circuit.{Role, Input, Comb, Sync, Undriven, sync_role, read_role, idle_role, is_named}
 use Rattle.lx_fhdl.specs.Below.{ExprId, StmtId}
-use Rattle.lx_fhdl.specs.Designs.{stmt, block, stmts_of, signal_number, domains_from, circuit_of, shapes}
+use Rattle.lx_fhdl.specs.Designs.{stmt, block, stmts_of, signal_number, domains_from, circuit_of}
 use Rattle.lx_fhdl.specs.Keeping.{EachOf, Keeps}
 use Rattle.lx_fhdl.specs.Lowered.{is_for}
 use Rattle.lx_fhdl.specs.declared.design.Signal.{Signal}
@@ -26,8 +26,7 @@ use Rattle.lx_sheet.specs.Drives.{AreDrives, IsThere, drive_of}
 use Rattle.lx_sheet.specs.Marks.{AreMarks}
 use Rattle.lx_drives.specs.Marks.{some_reset}
 use Rattle.lx_width.proofs.Ends.{at_front, at_last}
-use Rattle.lx_sheet.proofs.Texts.{index_is}
-use Rattle.std.proofs.lemmas.Option.{slice_get_within}
+use Rattle.std.proofs.lemmas.Option.{slice_get_within, get_or_from_slice_get}
 use Rattle.lx_drives.proofs.Plain.{for_drives}
 use Rattle.lx_circuit.specs.Circuit as circuit
 use Rattle.lx_emission.specs.Signals as signals
@@ -109,9 +108,6 @@ filled_next d clock ids k z a b y q r none l own_is m h e f = record {
         ∙ ap (λ (is : List StmtId). block_or clock is (drive_at a x)) (sym (own_next d x k ids z false l not_driven ∙ append-nil (own d x (take k ids))))
 
 -- ---- the signals of a design
-
-pub shape_is : (d : Design) (k : ℕ) (s : Signal) → slice_get d.signals k ≡ Some s → shapes d k ≡ s.shape
-shape_is d k s e = ap (λ (m : circuit.Made). m.shape) (made_is d k s e)
 
 reset_is : (d : Design) (x k : ℕ) (xs : List Domain) → circuit.is_some_reset x (domains_from d k xs) ≡ some_reset x xs
 reset_is d x k [] = refl
@@ -196,12 +192,6 @@ none_earlier d j k rs lt h x l = ap (is_block (Some j)) (h.each x (omega (arith,
 
 -- ---- domains and combinatorial statements
 
-dropped : {T : Type 0} (xs : List T) (k : ℕ) → length xs ≤ k → drop k xs ≡ []
-dropped [] zero l = refl
-dropped [] (suc k) l = refl
-dropped (y ∷ ys) zero l = absurd (omega arith)
-dropped (y ∷ ys) (suc k) l = dropped ys k (omega arith)
-
 pub idle_none : (d : Design) → AreIdle d 0 []
 idle_none d = record { long = refl; each = λ x l. absurd (omega arith) }
 
@@ -226,7 +216,7 @@ idle_more d n ports rs s z r marks h e f = record {
 pub idle_clocked : (d : Design) (rs : List Drive) → AreIdle d (length d.signals) rs → AreClocked d (length d.domains) rs
 idle_clocked d rs h = record {
   long = h.long;
-  each = λ x l. h.each x l ∙ ap (λ (xs : List Domain). clocked_or d x (length d.domains) xs (idle_drive (is_input d x))) (sym (dropped d.domains (length d.domains) (omega arith)));
+  each = λ x l. h.each x l ∙ ap (λ (xs : List Domain). clocked_or d x (length d.domains) xs (idle_drive (is_input d x))) (sym (drop_all (length d.domains) d.domains (omega arith)));
 }
 
 pub clocked_next : (d : Design) (k : ℕ) (ids : List StmtId) (a b : List Drive) → 0 < k → k ≤ length d.domains → ids ≡ stmts_of (k - 1) d.sync → AreClocked d k a → AreFilled d (Some (k - 1)) ids a b → AreClocked d (k - 1) b
@@ -287,7 +277,7 @@ drives_are d a b c fit h f g = record {
       let within : k < length c = slice_get_within c k r e in
       let in_a : k < length a = omega (arith, f.long, g.long) in
       let in_b : k < length b = omega (arith, g.long) in
-      ap drive_of (sym (index_is c k r now.Undriven e))
+      ap drive_of (sym (get_or_from_slice_get c k r now.Undriven e))
       ∙ g.each k in_b
       ∙ ap (closed d) (f.each k in_a ∙ ap (block_or None (own d k d.comb)) (h.each k (omega (arith, h.long))))
       ∙ sym (drive_is d k fit.show_nothing);

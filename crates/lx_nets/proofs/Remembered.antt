@@ -14,13 +14,13 @@ use Rattle.lx_emission.specs.Memories.{memory_decl, set_line, first_words}
 use Rattle.lx_nets.specs.Memories.{first_words_in, memory_decl_in, word_literal}
 use Rattle.lx_sheet.specs.Plans.{Plan, memory_in}
 use Rattle.lx_sheet.proofs.Lines.{line_more}
-use Rattle.lx_sheet.proofs.Starts.{each_of}
 use Rattle.lx_circuit.specs.Memories as circuit
 use Rattle.lx_vtext.specs.Tree as tree
 use Rattle.lx_sheet.proofs.Remembered.{memory_is}
+use Rattle.lx_fhdl.proofs.Resets.{each_of_at}
 
 pub memory_keeps : (d : Design) (k : ℕ) (m : Memory) → Keeps d → slice_get d.memories k ≡ Some m → IsMemory m
-memory_keeps d k m keeps e = each_of IsMemory d.memories k m keeps.memories e
+memory_keeps d k m keeps e = each_of_at IsMemory d.memories keeps.memories k m e
 
 pub narrow : (d : Design) (k : ℕ) (m : Memory) → Keeps d → slice_get d.memories k ≡ Some m → m.width < 128
 narrow d k m keeps e = let h = memory_keeps d k m keeps e in omega (arith, h.width_most)

@@ -1,7 +1,7 @@
 -- The texts of operands.
-use Rattle.std.proofs.Common.{◌≡◌, ℕ, zero, suc, Bool, ◌^◌, ◌<◌, List, [], ◌∷◌, length, refl, sym, ap, ◌∙◌, arith}
+use Rattle.std.proofs.Common.{◌≡◌, ℕ, Bool, ◌^◌, ◌<◌, List, [], length, refl, sym, ap, ◌∙◌, arith}
 use Rattle.std.specs.Prelude.{ℤ, Some, slice_get, slice_index_or}
-use Rattle.std.proofs.lemmas.Option.{slice_get_within}
+use Rattle.std.proofs.lemmas.Option.{slice_get_within, get_or_from_slice_get}
 use Rattle.lx_num.specs.Ints.{modulo, shape}
 use Rattle.lx_circuit.specs.Shapes.{fault_of}
 use Rattle.lx_vtext.specs.Tree.{Name}
@@ -16,6 +16,7 @@ use Rattle.lx_fhdl.proofs.Trees.{term_at-is}
 use Rattle.lx_emission.specs.Naming.{net, node_net}
 use Rattle.lx_emission.specs.Nodes.{operand_of, operand}
 use Rattle.lx_vtext.specs.Tree as tree
+use Rattle.lx_emission.proofs.Reading.{operand_is}
 
 pub constant_bits : (d : Design) (k : ℕ) (x : Expr) (value : ℤ) (bits : ℕ) (signed : Bool) → Keeps d → slice_get d.exprs k ≡ Some x → x ≡ Const value bits signed → (0 < bits) × (bits < 128)
 constant_bits d k x value bits signed keeps e f =
@@ -23,23 +24,14 @@ constant_bits d k x value bits signed keeps e f =
     let small = constant_small (shape bits signed) (sym (ap (fault_of (shapes d)) t) ∙ keeps.arenas.shaped k (slice_get_within d.exprs k x e)) in
     (omega (arith, small.some), omega (arith, small.most))
 
-pub operand_is : (d : Design) (names : List Name) (k : ℕ) (x : Expr) → slice_get d.exprs k ≡ Some x → operand d names k ≡ operand_of names (node_net d.exprs k) (Some x)
-unfolding operand
-operand_is d names k x e = ap (operand_of names (node_net d.exprs k)) e
-
 pub constant_operand : (d : Design) (names : List Name) (k : ℕ) (x : Expr) (value : ℤ) (bits : ℕ) (signed : Bool) → slice_get d.exprs k ≡ Some x → x ≡ Const value bits signed → tree.Literal bits signed (modulo value (2 ^ bits)) ≡ operand d names k
 constant_operand d names k x value bits signed e f = sym (operand_is d names k x e ∙ ap (λ (y : Expr). operand_of names (node_net d.exprs k) (Some y)) f)
 
 pub signal_there : (d : Design) (k : ℕ) (x : Expr) (y : SigId) → Keeps d → slice_get d.exprs k ≡ Some x → x ≡ Sig y → y.0 < length d.signals
 signal_there d k x y keeps e f = keeps.arenas.named k (Sig y) (e ∙ ap (λ (z : Expr). Some z) f)
 
-pub index_is : {T : Type 0} (xs : List T) (k : ℕ) (x z : T) → slice_get xs k ≡ Some x → slice_index_or xs k z ≡ x
-index_is [] k x z e = absurd (cc)
-index_is (y ∷ ys) zero x z e = cc
-index_is (y ∷ ys) (suc k) x z e = index_is ys k x z e
-
 pub name_is : (names : List Name) (k : ℕ) (n : Name) → slice_get names k ≡ Some n → n ≡ slice_index_or names k []
-name_is names k n e = sym (index_is names k n [] e)
+name_is names k n e = sym (get_or_from_slice_get names k n [] e)
 
 pub signal_operand : (d : Design) (names : List Name) (k : ℕ) (x : Expr) (y : SigId) (n : Name) → slice_get d.exprs k ≡ Some x → x ≡ Sig y → n ≡ net names y.0 → tree.Net n ≡ operand d names k
 signal_operand d names k x y n e f g = ap tree.Net g ∙ sym (operand_is d names k x e ∙ ap (λ (z : Expr). operand_of names (node_net d.exprs k) (Some z)) f)

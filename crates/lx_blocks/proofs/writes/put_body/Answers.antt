@@ -1,12 +1,12 @@
 use Rattle.std.proofs.Common.{◌≤◌, length, arith}
 use Rattle.lx_fhdl.specs.Keeping.{IsPort}
 use Rattle.lx_sheet.specs.Plans.{plan}
-use Rattle.lx_sheet.proofs.Starts.{each_of}
+use Rattle.lx_fhdl.proofs.Resets.{each_of_at}
 use Rattle.lx_blocks.proofs.Writing.{body_is, ports_next}
 use Rattle.lx_blocks.proofs.writes.put_body.Goals as goal
 
 pub put_port-requires-clause-port : goal.put_port-requires-clause-port
-put_port-requires-clause-port c = rw (← c.sheet.view_is) (each_of (IsPort c.sheet.inside.design.now) _ _ _ c.sheet.invariant.fit.keeps.ports c.at-port.ensures)
+put_port-requires-clause-port c = rw (← c.sheet.view_is) (each_of_at (IsPort c.sheet.inside.design.now) _ c.sheet.invariant.fit.keeps.ports _ _ c.at-port.ensures)
 
 pub loop-place-preserved : goal.loop-place-preserved
 loop-place-preserved c =
