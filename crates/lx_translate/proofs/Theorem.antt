@@ -12,12 +12,12 @@ use Rattle.lx_write.specs.Writes.{CanBeWritten, Writes}
 use Rattle.lx_write.proofs.Written.{written_from_emitted}
 use Rattle.lx_form.specs.declared.file.File.{File}
 use Rattle.lx_form.specs.Form.{is_form}
-use Rattle.lx_translate.specs.FormDesign.{design_of, design_signal}
-use Rattle.lx_translate.specs.FormNames.{names_of, naming_of}
+use Rattle.lx_designs.specs.FormDesign.{design_of, design_signal}
+use Rattle.lx_designs.specs.FormNames.{names_of, naming_of}
 use Rattle.lx_translate.specs.Translation.{IsModuleOf, IsTranslationLaw}
-use Rattle.lx_translate.proofs.Facts.{form_fits}
-use Rattle.lx_translate.proofs.DesignCircuit.{circuit_is}
-use Rattle.lx_translate.proofs.Emittable.{can_be_emitted}
+use Rattle.lx_designs.proofs.Facts.{form_fits}
+use Rattle.lx_designs.proofs.DesignCircuit.{circuit_is}
+use Rattle.lx_designs.proofs.Emittable.{can_be_emitted}
 
 -- no domain has a clock, and names of memories would stand behind those of signals
 naming_is : (f : File) → naming (design_of f) (names_of f) ≡ naming_of f

@@ -1,4 +1,1 @@
-pub mod FormCircuit
-pub mod FormDesign
-pub mod FormNames
 pub mod Translation

@@ -8,9 +8,9 @@ use Rattle.lx_agree.specs.Agreement.{Agrees, HasPorts}
 use Rattle.lx_write.specs.Writes.{CanBeWritten, Writes}
 use Rattle.lx_form.specs.declared.file.File.{File}
 use Rattle.lx_form.specs.Form.{is_form}
-use Rattle.lx_translate.specs.FormCircuit.{circuit_of}
-use Rattle.lx_translate.specs.FormDesign.{design_of}
-use Rattle.lx_translate.specs.FormNames.{names_of, naming_of}
+use Rattle.lx_designs.specs.FormCircuit.{circuit_of}
+use Rattle.lx_designs.specs.FormDesign.{design_of}
+use Rattle.lx_designs.specs.FormNames.{names_of, naming_of}
 
 -- A module gives what a description means: it has a text, which is no other module's, and a cycle meaning, its ports are the description's in their order,
 -- and each signal has the number of its net after every list of steps.

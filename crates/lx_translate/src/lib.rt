@@ -1,7 +1,6 @@
 //! A description of the first form becomes a Verilog module that gives what it means.
 #![tactic(auto)]
 
-pub mod designs;
 pub mod laws;
 pub mod writing;
 

@@ -4,7 +4,7 @@ ghost use Rattle.std.specs.Prelude.{IfOk, IsTrue};
 ghost use Rattle.lx_form.specs.Form.{is_form};
 ghost use Rattle.lx_translate.specs.Translation.{IsTextOf};
 
-use crate::designs::{design, names};
+use lx_designs::{design, names};
 use lx_form::File;
 use lx_text::{NoMemory, Text};
 use lx_vprint::print;

@@ -1,5 +1,5 @@
-use Rattle.lx_translate.proofs.DesignMade.{not_below, both_below}
-use Rattle.lx_translate.proofs.designs.put_side.Goals as goal
+use Rattle.lx_designs.proofs.DesignMade.{not_below, both_below}
+use Rattle.lx_designs.proofs.designs.put_side.Goals as goal
 
 pub push-requires : goal.push-requires
 push-requires c =

@@ -17,7 +17,7 @@ use Rattle.lx_form.specs.declared.file.Side.TheVariants as side
 use Rattle.lx_form.specs.declared.file.Signal as form
 use Rattle.lx_form.specs.declared.file.Line.{Line}
 use Rattle.lx_form.specs.declared.file.File.{File}
-use Rattle.lx_translate.specs.FormCircuit.{place_of, op_of}
+use Rattle.lx_designs.specs.FormCircuit.{place_of, op_of}
 
 -- an unsigned signal that resets to 0, with its letter as name
 abbrev pub design_signal : form.Signal → Signal

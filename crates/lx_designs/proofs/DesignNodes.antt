@@ -16,10 +16,10 @@ use Rattle.lx_form.specs.declared.file.Signal.{Signal}
 use Rattle.lx_form.specs.declared.file.Line.{Line}
 use Rattle.lx_form.specs.declared.file.File.{File}
 use Rattle.lx_form.specs.Form.{are_lines, width_of, side_width}
-use Rattle.lx_translate.specs.FormCircuit.{place_of, op_of}
-use Rattle.lx_translate.specs.FormDesign.{signal_node, operator_node, signal_nodes, operator_nodes, design_of}
-use Rattle.lx_translate.proofs.Facts.{line_fits, both_made}
-use Rattle.lx_translate.proofs.Places.{EachAt, each_at-append, each_at-get, places_long, place_there}
+use Rattle.lx_designs.specs.FormCircuit.{place_of, op_of}
+use Rattle.lx_designs.specs.FormDesign.{signal_node, operator_node, signal_nodes, operator_nodes, design_of}
+use Rattle.lx_designs.proofs.Facts.{line_fits, both_made}
+use Rattle.lx_designs.proofs.Places.{EachAt, each_at-append, each_at-get, places_long, place_there}
 use Rattle.lx_arena.proofs.Places.{get_front}
 
 -- the place of a signal that is made is among the signals

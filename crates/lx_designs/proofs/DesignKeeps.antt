@@ -41,13 +41,13 @@ use Rattle.lx_form.specs.declared.file.Signal.{Signal}
 use Rattle.lx_form.specs.declared.file.Line.{Line}
 use Rattle.lx_form.specs.declared.file.File.{File}
 use Rattle.lx_form.specs.Form.{are_signals, are_lines, side_width}
-use Rattle.lx_translate.specs.FormCircuit.{place_of, op_of, comb_of}
-use Rattle.lx_translate.specs.FormDesign.{signal_nodes, signal_node, operator_node, operator_nodes, side_place, place_after, line_target, line_stmts, design_signal, design_of}
-use Rattle.lx_translate.proofs.Facts.{line_fits, signal_fits}
-use Rattle.lx_translate.proofs.Words.{letter_identifier}
-use Rattle.lx_translate.proofs.Places.{places_long}
-use Rattle.lx_translate.proofs.DesignNodes.{place_within, NodeAt, OfSignal, OfNot, OfBoth, node_is}
-use Rattle.lx_translate.proofs.DesignCircuit.{exprs_lower, signal_term, targets_lower, stmts_lower, comb_is}
+use Rattle.lx_designs.specs.FormCircuit.{place_of, op_of, comb_of}
+use Rattle.lx_designs.specs.FormDesign.{signal_nodes, signal_node, operator_node, operator_nodes, side_place, place_after, line_target, line_stmts, design_signal, design_of}
+use Rattle.lx_designs.proofs.Facts.{line_fits, signal_fits}
+use Rattle.lx_designs.proofs.Words.{letter_identifier}
+use Rattle.lx_designs.proofs.Places.{places_long}
+use Rattle.lx_designs.proofs.DesignNodes.{place_within, NodeAt, OfSignal, OfNot, OfBoth, node_is}
+use Rattle.lx_designs.proofs.DesignCircuit.{exprs_lower, signal_term, targets_lower, stmts_lower, comb_is}
 
 -- ---- signals
 

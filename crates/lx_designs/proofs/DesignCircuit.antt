@@ -31,13 +31,13 @@ use Rattle.lx_form.specs.declared.file.Signal.{Signal}
 use Rattle.lx_form.specs.declared.file.Line.{Line}
 use Rattle.lx_form.specs.declared.file.File.{File}
 use Rattle.lx_form.specs.Form.{are_signals, are_lines, side_width}
-use Rattle.lx_translate.specs.FormCircuit as form
-use Rattle.lx_translate.specs.FormCircuit.{place_of, op_of, term_of, comb_of, signal_of}
-use Rattle.lx_translate.specs.FormDesign.{signal_node, signal_nodes, operator_node, operator_nodes, side_place, place_after, line_target, line_stmts, design_signal, design_of}
-use Rattle.lx_translate.proofs.Facts.{line_fits, both_made}
-use Rattle.lx_translate.proofs.Order.{placed}
-use Rattle.lx_translate.proofs.Places.{Tail, tail_all, tail_after, tail_here, tail_next, places_long}
-use Rattle.lx_translate.proofs.DesignNodes.{place_within, NodeAt, OfSignal, OfNot, OfBoth, node_is, signal_there}
+use Rattle.lx_designs.specs.FormCircuit as form
+use Rattle.lx_designs.specs.FormCircuit.{place_of, op_of, term_of, comb_of, signal_of}
+use Rattle.lx_designs.specs.FormDesign.{signal_node, signal_nodes, operator_node, operator_nodes, side_place, place_after, line_target, line_stmts, design_signal, design_of}
+use Rattle.lx_designs.proofs.Facts.{line_fits, both_made}
+use Rattle.lx_designs.proofs.Order.{placed}
+use Rattle.lx_designs.proofs.Places.{Tail, tail_all, tail_after, tail_here, tail_next, places_long}
+use Rattle.lx_designs.proofs.DesignNodes.{place_within, NodeAt, OfSignal, OfNot, OfBoth, node_is, signal_there}
 
 -- ---- nodes stand after their operands
 

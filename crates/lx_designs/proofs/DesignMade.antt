@@ -20,11 +20,11 @@ use Rattle.lx_form.specs.declared.file.Signal.{Signal}
 use Rattle.lx_form.specs.declared.file.Line.{Line}
 use Rattle.lx_form.specs.declared.file.File.{File}
 use Rattle.lx_form.specs.Form.{are_lines, is_form, width_of, side_width}
-use Rattle.lx_translate.specs.FormCircuit.{place_of, op_of}
-use Rattle.lx_translate.specs.FormDesign.{signal_node, signal_nodes, operator_node, operator_nodes, side_place, place_after, line_target, line_stmts, design_of, design_without_lines, with_line}
-use Rattle.lx_translate.proofs.Facts.{line_fits, both_made, form_fits}
-use Rattle.lx_translate.proofs.Places.{places_long}
-use Rattle.lx_translate.proofs.DesignNodes.{place_within}
+use Rattle.lx_designs.specs.FormCircuit.{place_of, op_of}
+use Rattle.lx_designs.specs.FormDesign.{signal_node, signal_nodes, operator_node, operator_nodes, side_place, place_after, line_target, line_stmts, design_of, design_without_lines, with_line}
+use Rattle.lx_designs.proofs.Facts.{line_fits, both_made, form_fits}
+use Rattle.lx_designs.proofs.Places.{places_long}
+use Rattle.lx_designs.proofs.DesignNodes.{place_within}
 
 -- ---- the operands of a node are there
 

@@ -4,9 +4,9 @@ ghost use Rattle.std.specs.Prelude.{◌≡◌, ◌<◌, ◌≤◌, ◌++◌, IfO
 ghost use Rattle.lx_fhdl.specs.Instance.{the_signal, the_expr};
 ghost use Rattle.lx_emission.specs.Emission.{places_from};
 ghost use Rattle.lx_form.specs.Form.{is_form, side_width};
-ghost use Rattle.lx_translate.specs.FormCircuit.{place_of, op_of};
-ghost use Rattle.lx_translate.specs.FormDesign.{design_signal, signal_nodes, operator_node, side_place, design_of, design_without_lines, with_line};
-ghost use Rattle.lx_translate.specs.FormNames.{names_of};
+ghost use Rattle.lx_designs.specs.FormCircuit.{place_of, op_of};
+ghost use Rattle.lx_designs.specs.FormDesign.{design_signal, signal_nodes, operator_node, side_place, design_of, design_without_lines, with_line};
+ghost use Rattle.lx_designs.specs.FormNames.{names_of};
 
 use lx_arena::{Arena, Id};
 use lx_fhdl::{Design, Expr, ExprId, Exprs, SigId, Stmt, Target};

@@ -1,6 +1,6 @@
 use Rattle.std.proofs.lemmas.List.{drop_more}
-use Rattle.lx_translate.proofs.DesignMade.{starts, line_made}
-use Rattle.lx_translate.proofs.designs.design.Goals as goal
+use Rattle.lx_designs.proofs.DesignMade.{starts, line_made}
+use Rattle.lx_designs.proofs.designs.design.Goals as goal
 
 pub loop-line-init : goal.loop-line-init
 loop-line-init c = starts _ _ _ _ c.requires c.as_slice-signals.ensures c.as_slice-line-items.ensures c.in_ok-design.ensures

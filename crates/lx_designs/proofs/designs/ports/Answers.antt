@@ -1,7 +1,7 @@
 use Rattle.std.proofs.Common.{◌∙◌}
 use Rattle.lx_fhdl.specs.Instance.{the_signal}
-use Rattle.lx_translate.proofs.Places.{places_more}
-use Rattle.lx_translate.proofs.designs.ports.Goals as goal
+use Rattle.lx_designs.proofs.Places.{places_more}
+use Rattle.lx_designs.proofs.designs.ports.Goals as goal
 
 pub loop-place-preserved : goal.loop-place-preserved
 loop-place-preserved c =

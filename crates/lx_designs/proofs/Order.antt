@@ -12,8 +12,8 @@ use Rattle.lx_form.specs.declared.file.Signal.{Signal}
 use Rattle.lx_form.specs.declared.file.Line.{Line}
 use Rattle.lx_form.specs.declared.file.File.{File}
 use Rattle.lx_form.specs.Form.{are_signals, are_lines, width_of, side_width, is_assigned, reads_some}
-use Rattle.lx_translate.specs.FormCircuit.{place_of, term_of, comb_of, circuit_of}
-use Rattle.lx_translate.proofs.Facts.{signal_fits, LineFits, line_fits, both_made}
+use Rattle.lx_designs.specs.FormCircuit.{place_of, term_of, comb_of, circuit_of}
+use Rattle.lx_designs.proofs.Facts.{signal_fits, LineFits, line_fits, both_made}
 
 -- ---- places
 

@@ -1,7 +1,7 @@
 use Rattle.std.proofs.Common.{◌∙◌}
-use Rattle.lx_translate.specs.FormDesign.{signal_node}
-use Rattle.lx_translate.proofs.Places.{places_more}
-use Rattle.lx_translate.proofs.designs.nodes.Goals as goal
+use Rattle.lx_designs.specs.FormDesign.{signal_node}
+use Rattle.lx_designs.proofs.Places.{places_more}
+use Rattle.lx_designs.proofs.designs.nodes.Goals as goal
 
 pub loop-place-preserved : goal.loop-place-preserved
 loop-place-preserved c =

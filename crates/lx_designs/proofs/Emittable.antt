@@ -21,14 +21,14 @@ use Rattle.lx_emission.specs.Emits.{are_once, none_is_reset, PortsFit, MemoriesF
 use Rattle.lx_form.specs.declared.file.Signal.{Signal}
 use Rattle.lx_form.specs.declared.file.File.{File}
 use Rattle.lx_form.specs.Form.{are_signals, are_lines, width_of}
-use Rattle.lx_translate.specs.FormDesign.{design_signal, design_of}
-use Rattle.lx_translate.specs.FormNames.{signal_name, names_of}
-use Rattle.lx_translate.proofs.Facts.{signal_fits, other_letter}
-use Rattle.lx_translate.proofs.Order.{has_order}
-use Rattle.lx_translate.proofs.Words.{letter_name}
-use Rattle.lx_translate.proofs.DesignCircuit.{circuit_is}
-use Rattle.lx_translate.proofs.DesignNodes.{NodeAt, OfSignal, OfNot, OfBoth, node_is}
-use Rattle.lx_translate.proofs.DesignKeeps.{keeps, lowered}
+use Rattle.lx_designs.specs.FormDesign.{design_signal, design_of}
+use Rattle.lx_designs.specs.FormNames.{signal_name, names_of}
+use Rattle.lx_designs.proofs.Facts.{signal_fits, other_letter}
+use Rattle.lx_designs.proofs.Order.{has_order}
+use Rattle.lx_designs.proofs.Words.{letter_name}
+use Rattle.lx_designs.proofs.DesignCircuit.{circuit_is}
+use Rattle.lx_designs.proofs.DesignNodes.{NodeAt, OfSignal, OfNot, OfBoth, node_is}
+use Rattle.lx_designs.proofs.DesignKeeps.{keeps, lowered}
 
 -- ---- names
 

@@ -1,0 +1,3 @@
+pub mod FormCircuit
+pub mod FormDesign
+pub mod FormNames
