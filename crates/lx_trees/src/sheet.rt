@@ -7,7 +7,7 @@ use crate::stmts::put_stmt;
 use lx_arena::Id;
 use lx_pytree::read;
 use lx_syntax::{ClassForm, Node, Parameter, Syntax, syntax_of};
-use lx_text::{List, NoMemory, Text};
+use lx_text::{List, NoMemory, Refusal, Text};
 use lx_token::Token;
 use lx_token::tokens::tokens;
 use std::alloc::Global;
@@ -27,9 +27,10 @@ fn put_tree(
     tokens: &List<Token>,
     out: &mut Text,
 ) -> Result<(), NoMemory> {
-    match faultless(read(alloc, source, tokens))? {
-        Some(tree) => put_syntax(&syntax_of(alloc, source, &tree)?, out),
-        None => out.word(b"no tree\n"),
+    match read(alloc, source, tokens) {
+        Ok(tree) => put_syntax(&syntax_of(alloc, source, &tree)?, out),
+        Err(Refusal::Fault(_)) => out.word(b"no tree\n"),
+        Err(Refusal::NoMemory) => Err(NoMemory),
     }
 }
 
