@@ -1,0 +1,27 @@
+use Rattle.std.proofs.Common.{refl}
+use Rattle.lx_shaped.specs.Making.{make_signal, make_stmt}
+use Rattle.lx_state.specs.Lists.{list_of}
+use Rattle.lx_objects.specs.Exprs.{put_stmt}
+use Rattle.lx_objects.specs.Ios.{ios_of, signal_of, signals_of}
+use Rattle.lx_objects.specs.Signals.{put_signal}
+use Rattle.lx_fragments.specs.Domains.{domain_made, domains_made, some_reset}
+use Rattle.lx_fragments.specs.Fragments.{all_comb, all_sync, all_under, fragments_of, lay_parts, under}
+use Rattle.lx_fragments.specs.Laying.{lay, lay_all, statement_at}
+use Rattle.lx_paths.specs.Paths.{modules_around}
+use Rattle.lx_describe.specs.Describing.{described, outline_of, plain_top, top_ios, top_of}
+use Rattle.lx_describe.specs.Order.{all_ordered, ordered}
+use Rattle.lx_describe.specs.Signals.{named_signals}
+use Rattle.lx_describe.specs.Submodules.{all_bound, each_once}
+use Rattle.lx_describe.proofs.worked.descriptions_are_worked.Goals as goal
+
+pub returns : goal.returns
+unfolding make_signal make_stmt list_of put_stmt ios_of signal_of signals_of put_signal domain_made domains_made some_reset all_comb all_sync all_under fragments_of lay_parts under lay lay_all statement_at modules_around described outline_of plain_top top_ios top_of all_ordered ordered named_signals all_bound each_once
+returns c = record {
+  submodules_once = refl;
+  order = refl;
+  everything = refl;
+  no_ports = refl;
+  ports_of_no_list = refl;
+  system = refl;
+  no_module = refl;
+}

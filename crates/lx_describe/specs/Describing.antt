@@ -1,0 +1,94 @@
+-- The description of a machine in which the top was made.
+use Rattle.std.specs.Prelude.{ℕ, Bool, true, false, List, [], map, codes, slice_get, Option, Some, None, if◌then◌else◌}
+use Rattle.lx_text.specs.declared.faults.Kind.TheVariants as kind
+use Rattle.lx_fhdl.specs.declared.design.Design.{Design}
+use Rattle.lx_fhdl.specs.declared.design.Signal.{Signal}
+use Rattle.lx_fhdl.specs.declared.exprs.SigId.{SigId}
+use Rattle.lx_state.specs.declared.values.Value.{Value}
+use Rattle.lx_state.specs.declared.machine.Machine.{Machine}
+use Rattle.lx_state.specs.declared.machine.Module.{Module}
+use Rattle.lx_state.specs.declared.machine.ModuleKind.{ModuleKind}
+use Rattle.lx_state.specs.declared.machine.ModuleKind.TheVariants as bases
+use Rattle.lx_state.specs.declared.machine.Object.{Object}
+use Rattle.lx_state.specs.Step.{Step, give, fault, or_fault, reads, ◌>>=◌}
+use Rattle.lx_objects.specs.Ios.{ios_of}
+use Rattle.lx_objects.specs.Modules.{module_of, some_attribute}
+use Rattle.lx_fragments.specs.Domains.{domains_made, mention_of}
+use Rattle.lx_fragments.specs.Fragments.{fragments_of}
+use Rattle.lx_description.specs.declared.description.Description.{Description}
+use Rattle.lx_description.specs.Laws.{no_wishes}
+use Rattle.lx_describe.specs.declared.describing.Outline.{Outline}
+use Rattle.lx_describe.specs.Modules.{module_decls, module_text}
+use Rattle.lx_describe.specs.Order.{in_order}
+use Rattle.lx_describe.specs.Signals.{named_signals}
+
+-- ---- the top
+
+-- the module that is the top
+unfoldable pub top_of : Value → Step ℕ
+top_of v m = or_fault (module_of m v) 0 kind.WrongKind m
+
+abbrev pub is_soc : ModuleKind → Bool
+is_soc bases.Soc = true
+is_soc _ = false
+
+abbrev pub is_system : Option Module → Bool
+is_system None = false
+is_system (Some x) = is_soc x.kind
+
+abbrev pub object_line : Option Object → ℕ
+object_line None = 0
+object_line (Some o) = o.line
+
+abbrev pub module_line : Machine → Option Module → ℕ
+module_line m None = 0
+module_line m (Some x) = object_line (slice_get m.objects x.object)
+
+-- systems are not built yet
+unfoldable pub plain_top : ℕ → Step (Unit {0})
+plain_top top m = if is_system (slice_get m.modules top) then fault (module_line m (slice_get m.modules top)) kind.NotYetBuilt m else give tt m
+
+-- ---- its ports
+
+abbrev pub some_ios : Option Value → Step (List SigId)
+some_ios None = give []
+some_ios (Some v) = ios_of 0 v
+
+-- the signals of the last list that the top bound to `ios`; no ports where it bound none
+unfoldable pub top_ios : ℕ → Step (List SigId)
+top_ios top m = some_ios (some_attribute (codes "ios") (slice_get m.modules top)) m
+
+-- ---- the description
+
+-- what makes a design of what stands in the machine; the resets of the domains are the last signals
+unfoldable pub outline_of : Value → Step Outline
+outline_of v = do
+  top ← top_of v
+  _ ← plain_top top
+  ios ← top_ios top
+  fragments ← fragments_of top
+  mentioned ← reads (λ m. map mention_of m.domains)
+  domains ← domains_made mentioned
+  give (record { top = top; ios = ios; fragments = fragments; domains = domains })
+
+abbrev pub design_of : Design → Outline → List Signal → Design
+design_of d x signals = record d { signals = signals; comb = x.fragments.comb; sync = x.fragments.sync; domains = x.domains; ports = []; ios = x.ios }
+
+-- nothing but the circuit and its modules is built yet
+abbrev pub description_of : Machine → Outline → Description
+description_of m x = record {
+  top = module_text m (slice_get m.modules x.top);
+  soc = false;
+  design = design_of m.shaped x (named_signals m 0 m.shaped.signals);
+  modules = module_decls m (in_order m x.top);
+  slaves = [];
+  wishes = no_wishes;
+  constants = [];
+  fsm_stmts = [];
+  fsms = [];
+}
+
+unfoldable pub described : Value → Step Description
+described v = do
+  x ← outline_of v
+  reads (λ m. description_of m x)

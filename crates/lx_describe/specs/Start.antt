@@ -1,0 +1,8 @@
+-- The machine of a description that has not begun.
+use Rattle.std.specs.Prelude.{[], None}
+use Rattle.lx_fhdl.specs.Drafts.{started}
+use Rattle.lx_state.specs.declared.machine.Machine.{Machine}
+
+-- nothing was made, bound or spent
+abbrev pub start : Machine
+start = record { spent = 0; nodes = 0; classes = []; shaped = started [] []; owners = []; objects = []; modules = []; texts = []; lists = []; dictionaries = []; made = []; domains = []; frame = record { locals = []; this = None; class = 0 } }

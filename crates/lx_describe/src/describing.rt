@@ -1,0 +1,213 @@
+//! The description of a machine in which the top was made.
+
+ghost use Rattle.std.specs.Prelude.{[], ◌≡◌, IfOk, codes, slice_get};
+ghost use Rattle.lx_objects.specs.Modules.{some_attribute};
+ghost use Rattle.lx_describe.specs.Answers.{Answers, answer};
+ghost use Rattle.lx_describe.specs.Describing.{described, description_of, design_of, is_soc, is_system, module_line, object_line, outline_of, plain_top, some_ios, top_ios, top_of};
+ghost use Rattle.lx_describe.specs.Modules.{module_decls};
+ghost use Rattle.lx_describe.specs.Order.{in_order};
+ghost use Rattle.lx_description.specs.Laws.{no_wishes};
+ghost use Rattle.lx_state.specs.Step.{Gives};
+
+use crate::modules::{module_decls, module_text};
+use crate::order::in_order;
+use crate::signals::named_signals;
+use lx_arena::Arena;
+use lx_description::{Description, ModuleDecl};
+use lx_fhdl::{Design, Domain, SigId, Signal, Wishes};
+use lx_fragments::domains::{domains_made, mentions};
+use lx_fragments::fragments::{Fragments, fragments_of};
+use lx_objects::ios::ios_of;
+use lx_objects::modules::module_of;
+use lx_shaped::Shaped;
+use lx_state::machine::{Machine, ModuleKind};
+use lx_state::values::Value;
+use lx_state::work::fault;
+use lx_text::{Kind, List, NoMemory, Refusal};
+use std::alloc::Global;
+use std::mem;
+
+// ---- the top
+
+// The module that is the top.
+#[tactic(auto, unfolding(crate::specs::Describing::top_of))]
+fn top_of(machine: &Machine, value: Value) -> Result<usize, Refusal>
+    ensures { Gives result machine.now (top_of value machine.now) }
+{
+    match module_of(machine, value) {
+        Some(top) => Ok(top),
+        None => Err(fault(0, Kind::WrongKind)),
+    }
+}
+
+fn is_soc(kind: ModuleKind) -> bool
+    ensures { result ≡ is_soc kind }
+{
+    match kind {
+        ModuleKind::Soc => true,
+        ModuleKind::Plain | ModuleKind::Lite => false,
+    }
+}
+
+// Whether a module is a system.
+fn is_system(machine: &Machine, at: usize) -> bool
+    ensures { result ≡ is_system (slice_get machine.now.modules at) }
+{
+    match machine.modules.get(at) {
+        Some(module) => is_soc(module.kind),
+        None => false,
+    }
+}
+
+fn object_line(machine: &Machine, at: usize) -> u32
+    ensures { result ≡ object_line (slice_get machine.now.objects at) }
+{
+    match machine.objects.get(at) {
+        Some(object) => object.line,
+        None => 0,
+    }
+}
+
+// The line on which a module was made.
+fn module_line(machine: &Machine, at: usize) -> u32
+    ensures { result ≡ module_line machine.now (slice_get machine.now.modules at) }
+{
+    match machine.modules.get(at) {
+        Some(module) => object_line(machine, module.object),
+        None => 0,
+    }
+}
+
+// Systems are not built yet.
+#[tactic(auto, unfolding(crate::specs::Describing::plain_top))]
+fn plain_top(machine: &Machine, top: usize) -> Result<(), Refusal>
+    ensures { Gives result machine.now (plain_top top machine.now) }
+{
+    if is_system(machine, top) {
+        return Err(fault(module_line(machine, top), Kind::NotYetBuilt));
+    }
+    Ok(())
+}
+
+// ---- its ports
+
+fn bound_ios(machine: &Machine, top: usize) -> Option<Value>
+    ensures { result ≡ some_attribute (codes "ios") (slice_get machine.now.modules top) }
+{
+    match machine.modules.get(top) {
+        Some(module) => module.attributes.get(b"ios"),
+        None => None,
+    }
+}
+
+// The signals of the last list that the top bound to `ios`.
+#[tactic(auto, unfolding(crate::specs::Describing::top_ios))]
+fn top_ios(machine: &Machine, alloc: Global, top: usize) -> Result<List<SigId>, Refusal>
+    ensures { Gives result machine.now (top_ios top machine.now) }
+{
+    match bound_ios(machine, top) {
+        Some(value) => ios_of(machine, alloc, 0, value),
+        None => Ok(List::new(alloc)),
+    }
+}
+
+// ---- the description
+
+fn no_wishes(alloc: Global) -> Wishes
+    ensures { result ≡ no_wishes }
+{
+    Wishes {
+        regions: List::new(alloc),
+        banks: List::new(alloc),
+        fixes: List::new(alloc),
+        managers: List::new(alloc),
+        irqs: List::new(alloc),
+    }
+}
+
+/// What makes a design of what stands in a machine.
+#[derive(Drop)]
+pub struct Outline {
+    /// The place of the top.
+    pub top: usize,
+    pub ios: List<SigId>,
+    pub fragments: Fragments,
+    pub domains: List<Domain>,
+}
+
+// The resets of the domains are the last signals.
+#[tactic(auto, unfolding(crate::specs::Describing::outline_of))]
+fn outline_of(machine: &mut Machine, alloc: Global, value: Value) -> Result<Outline, Refusal>
+    ensures { Gives result machine.new (outline_of value machine.old) }
+{
+    let top = top_of(machine, value)?;
+    plain_top(machine, top)?;
+    let ios = top_ios(machine, alloc, top)?;
+    let fragments = fragments_of(machine, alloc, top)?;
+    let mentioned = mentions(machine, alloc)?;
+    let domains = domains_made(machine, alloc, mentioned.as_slice())?;
+    Ok(Outline {
+        top,
+        ios,
+        fragments,
+        domains,
+    })
+}
+
+fn design_of(shaped: Shaped, alloc: Global, outline: Outline, signals: List<Signal>) -> Design
+    ensures { result ≡ design_of shaped outline signals }
+{
+    let Outline {
+        ios,
+        fragments,
+        domains,
+        ..
+    } = outline;
+    let Fragments { comb, sync } = fragments;
+    let design = shaped.finish(comb, sync, domains, List::new(alloc), ios);
+    Design { signals, ..design }
+}
+
+// What all modules declare.
+fn all_decls(machine: &Machine, alloc: Global, top: usize) -> Result<List<ModuleDecl>, NoMemory>
+    ensures { IfOk result (λ decls. decls ≡ module_decls machine.now (in_order machine.now top)) }
+{
+    let all = in_order(machine, alloc, top)?;
+    module_decls(machine, alloc, all.as_slice())
+}
+
+// Takes the design out of the machine.
+fn description_of(
+    machine: &mut Machine,
+    alloc: Global,
+    outline: Outline,
+) -> Result<Description, NoMemory>
+    ensures { IfOk result (λ description. description ≡ description_of machine.old outline) }
+{
+    let top = module_text(machine, alloc, outline.top)?;
+    let modules = all_decls(machine, alloc, outline.top)?;
+    let signals = named_signals(machine, alloc)?;
+    let shaped = mem::replace(&mut machine.shaped, Shaped::new(alloc));
+    let design = design_of(shaped, alloc, outline, signals);
+    Ok(Description {
+        top,
+        soc: false,
+        design,
+        modules,
+        slaves: List::new(alloc),
+        wishes: no_wishes(alloc),
+        constants: List::new(alloc),
+        fsm_stmts: Arena::new(alloc),
+        fsms: List::new(alloc),
+    })
+}
+
+/// The description of a machine whose top is this value. The machine is spent.
+#[tactic(auto, using(crate::proofs::Answering::answer_stopped), unfolding(crate::specs::Describing::described))]
+pub fn described(machine: &mut Machine, alloc: Global, value: Value) -> Result<Description, Refusal>
+    ensures { Answers result (answer (described value machine.old)) }
+{
+    let outline = outline_of(machine, alloc, value)?;
+    let description = description_of(machine, alloc, outline)?;
+    Ok(description)
+}

@@ -1,0 +1,12 @@
+//! What a description says at its end: the circuit and the modules of a machine in which the top was made.
+#![tactic(auto)]
+
+pub mod describing;
+pub mod modules;
+pub mod order;
+pub mod signals;
+pub mod start;
+pub mod submodules;
+pub mod worked;
+
+pub use describing::described;

@@ -1,0 +1,36 @@
+//! The machine of a description that has not begun.
+
+ghost use Rattle.std.specs.Prelude.{◌≡◌};
+ghost use Rattle.lx_describe.specs.Start.{start};
+
+use lx_names::Table;
+use lx_shaped::Shaped;
+use lx_state::machine::{Frame, Machine};
+use lx_text::List;
+use lx_value::Budget;
+use std::alloc::Global;
+
+/// A machine in which nothing was made, bound or spent.
+pub fn start(alloc: Global) -> Machine
+    ensures { result ≡ start }
+{
+    Machine {
+        spent: Budget::new(),
+        nodes: 0,
+        classes: List::new(alloc),
+        shaped: Shaped::new(alloc),
+        owners: List::new(alloc),
+        objects: List::new(alloc),
+        modules: List::new(alloc),
+        texts: List::new(alloc),
+        lists: List::new(alloc),
+        dictionaries: List::new(alloc),
+        made: List::new(alloc),
+        domains: Table::new(alloc),
+        frame: Frame {
+            locals: Table::new(alloc),
+            this: None,
+            class: 0,
+        },
+    }
+}
