@@ -1,0 +1,15 @@
+pub mod Applied
+pub mod Arguing
+pub mod Down
+pub mod Going
+pub mod Levels
+pub mod Listing
+pub mod Lower
+pub mod Making
+pub mod Measures
+pub mod Operands
+pub mod Plain
+pub mod Restored
+pub mod Spine
+pub mod Steps
+pub mod Trailing
