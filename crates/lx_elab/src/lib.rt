@@ -1,0 +1,6 @@
+//! From the syntax tree of a text to the description that it makes, or its first fault.
+#![tactic(auto)]
+
+mod elaboration;
+
+pub use elaboration::elaborate;
