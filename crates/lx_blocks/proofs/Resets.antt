@@ -15,8 +15,10 @@ use Rattle.lx_fhdl.specs.declared.design.Signal.{Signal}
 use Rattle.lx_fhdl.specs.declared.design.Domain.{Domain}
 use Rattle.lx_fhdl.specs.declared.design.Design.{Design}
 use Rattle.lx_emission.specs.Naming.{net}
-use Rattle.lx_emission.specs.Signals.{reset_text, reset_block, domain_reset}
+use Rattle.lx_emission.specs.Signals.{reset_block, domain_reset}
 use Rattle.lx_emission.specs.Texts.{block_onto}
+use Rattle.lx_sheet.specs.Plans.{Plan}
+use Rattle.lx_blocks.specs.Plans.{reset_assign_in}
 use Rattle.lx_blocks.specs.Puts.{IsTarget, PutBlock, PutElse, PutStmts, trees_of, texts_of}
 use Rattle.lx_blocks.specs.Resets.{reset_stmt, block_by}
 use Rattle.lx_sheet.proofs.Owners.{made_is}
@@ -34,12 +36,28 @@ less d names k (Some r) e = rw e refl
 pub no_reset : (d : Design) (names : List Name) (k : ℕ) (s : Signal) (o : Option SigId) → slice_get d.signals k ≡ Some s → s.reset_less ≡ true → tree.EndBlock ≡ reset_block d names k o
 no_reset d names k s o e f = less d names k o (ap (λ (m : Made). m.reset_less) (made_is d k s e) ∙ f)
 
-taken : (d : Design) (names : List Name) (k : ℕ) (o : Option SigId) → (made (circuit_of d) k).reset_less ≡ false → block_by d names k o ≡ reset_block d names k o
-taken d names k None e = refl
-taken d names k (Some r) e = rw e refl
+taken : (p : Plan) (k : ℕ) (r : SigId) (n : Name) → (made (circuit_of p.design) k).reset_less ≡ false → n ≡ net p.names r.0 → block_by p k (Some n) ≡ reset_block p.design p.names k (Some r)
+taken p k r n e f = rw (f, e) refl
 
-pub some_reset : (d : Design) (names : List Name) (k : ℕ) (s : Signal) (n : ℕ) (x : Domain) → slice_get d.signals k ≡ Some s → s.reset_less ≡ false → slice_get d.domains n ≡ Some x → block_by d names k x.reset ≡ reset_block d names k (domain_reset (slice_get d.domains n))
-some_reset d names k s n x e f g = taken d names k x.reset (ap (λ (m : Made). m.reset_less) (made_is d k s e) ∙ f) ∙ ap (λ (o : Option Domain). reset_block d names k (domain_reset o)) (sym g)
+-- the reset of a signal that takes part, by its name
+pub some_reset : (p : Plan) (k : ℕ) (s : Signal) (n : ℕ) (x : Domain) (r : SigId) (m : Name) → slice_get p.design.signals k ≡ Some s → s.reset_less ≡ false → slice_get p.design.domains n ≡ Some x → x.reset ≡ Some r → m ≡ net p.names r.0
+    → block_by p k (Some m) ≡ reset_block p.design p.names k (domain_reset (slice_get p.design.domains n))
+some_reset p k s n x r m e f g h i =
+    taken p k r m (ap (λ (a : Made). a.reset_less) (made_is p.design k s e) ∙ f) i
+    ∙ ap (reset_block p.design p.names k) (sym h)
+    ∙ ap (λ (o : Option Domain). reset_block p.design p.names k (domain_reset o)) (sym g)
+
+-- that of a domain without one
+pub without_reset : (p : Plan) (k n : ℕ) (x : Domain) → slice_get p.design.domains n ≡ Some x → x.reset ≡ None → block_by p k None ≡ reset_block p.design p.names k (domain_reset (slice_get p.design.domains n))
+without_reset p k n x g h = ap (reset_block p.design p.names k) (sym h) ∙ ap (λ (o : Option Domain). reset_block p.design p.names k (domain_reset o)) (sym g)
+
+-- the end of a block, where no reset applies, and where one does
+pub no_end : (p : Plan) (k : ℕ) (o : Option Name) (end : tree.VBlock) → block_by p k o ≡ end → ((m : Name) → o ≡ Some m → ⊥) → tree.EndBlock ≡ end
+no_end p k None end e h = e
+no_end p k (Some m) end e h = absurd (h m refl)
+
+pub reset_end : (p : Plan) (k : ℕ) (o : Option Name) (m : Name) (end : tree.VBlock) → block_by p k o ≡ end → o ≡ Some m → tree.InBlock (reset_stmt p k m) tree.EndBlock ≡ end
+reset_end p k o m end e f = sym (ap (block_by p k) f) ∙ e
 
 -- ---- targets and blocks
 
@@ -97,9 +115,7 @@ lone_when n0 n1 n2 n3 lone so c i t u p e put a =
     when_put n0 n1 n1 n2 n3 so None c (tree.InBlock t tree.EndBlock) tree.NoElse u i (lone_block n0 n1 lone so t p e) (no_else n1) put a
 
 -- the signal takes its reset value where the reset is high
-pub reset_stmt_put : (n0 n1 n2 n3 : NodeLists) (assign : StmtRef) (so : List StmtRef) (c : Ref) (i : ℕ) (d : Design) (names : List Name) (x : ℕ) (r : SigId) (n : Name)
-    → PutStmt n0 n1 assign.place (tree.Assign (tree.Whole (net names x)) false (reset_text d x)) → so ≡ assign ∷ [] → n ≡ net names r.0 → PutExpr n1 n2 c.place (tree.Net n)
-    → AddedStmt n2 n3 i (node.When c so None) → PutStmt n0 n3 i (reset_stmt d names x r)
-reset_stmt_put n0 n1 n2 n3 assign so c i d names x r n p e f put a =
-    lone_when n0 n1 n2 n3 assign so c i (tree.Assign (tree.Whole (net names x)) false (reset_text d x)) (tree.Net (net names r.0)) p e
-    (subst (λ (m : Name). PutExpr n1 n2 c.place (tree.Net m)) f put) a
+pub reset_stmt_put : (n0 n1 n2 n3 : NodeLists) (assign : StmtRef) (so : List StmtRef) (c : Ref) (i : ℕ) (p : Plan) (x : ℕ) (reset : Name)
+    → PutStmt n0 n1 assign.place (reset_assign_in p false x) → so ≡ assign ∷ [] → PutExpr n1 n2 c.place (tree.Net reset)
+    → AddedStmt n2 n3 i (node.When c so None) → PutStmt n0 n3 i (reset_stmt p x reset)
+reset_stmt_put n0 n1 n2 n3 assign so c i p x reset q e put a = lone_when n0 n1 n2 n3 assign so c i (reset_assign_in p false x) (tree.Net reset) q e put a

@@ -20,12 +20,12 @@ use Rattle.lx_fhdl.specs.declared.design.Memory.{Memory}
 use Rattle.lx_fhdl.specs.declared.design.Port.{Port}
 use Rattle.lx_fhdl.specs.declared.design.PortMode.{PortMode}
 use Rattle.lx_fhdl.specs.declared.design.Design.{Design}
-use Rattle.lx_emission.specs.Memories.{WriteNames, block_of, clocked, field_text, guarded, memory_always, memory_body, port_text, word_target, writes_memory, writes_text, writing_domain}
+use Rattle.lx_emission.specs.Memories.{WriteNames, block_of, clocked, field_text, guarded, memory_always, memory_body, parts_text, port_text, word_target, writes_memory, writes_text, writing_domain}
 use Rattle.lx_emission.specs.Naming.{clock}
 use Rattle.lx_blocks.specs.Puts.{IsWordTarget, PutBlock, PutStmts, trees_of}
-use Rattle.lx_sheet.specs.Plans.{Plan, net_in}
-use Rattle.lx_blocks.specs.Writes.{IsWrite, bound_text, bounded_in, memory_always_in, memory_body_in, part_in, parts_in, port_in, write_in, writes_in}
-use Rattle.lx_blocks.specs.declared.writes.Write.{Write}
+use Rattle.lx_sheet.specs.Plans.{Plan, memory_in, net_in}
+use Rattle.lx_blocks.specs.Writes.{bits_in, bound_text, depth_in, names_in, bounded_in, memory_always_in, memory_body_in, part_in, parts_in, port_in, write_in, writes_in}
+use Rattle.lx_blocks.specs.declared.write.Write.{Write}
 use Rattle.lx_blocks.proofs.Grown.{before_end, stmts_more, when_put}
 use Rattle.std.proofs.lemmas.Option.{slice_get_within, get_or_from_slice_get}
 use Rattle.lx_sheet.proofs.Remembered.{memory_is}
@@ -80,8 +80,8 @@ word_placed n0 n1 n2 index v t a b u p is q =
 
 -- ---- parts
 
-pub parts_next : (p : Plan) (w : Write) (i : ℕ) → map (part_in p w) (range_with_len 0 (i + 1)) ≡ map (part_in p w) (range_with_len 0 i) ++ part_in p w i ∷ []
-parts_next p w i = map-range_with_len_more (part_in p w) 0 i i (omega arith)
+pub parts_next : (w : Write) (i : ℕ) → map (part_in w) (range_with_len 0 (i + 1)) ≡ map (part_in w) (range_with_len 0 i) ++ part_in w i ∷ []
+parts_next w i = map-range_with_len_more (part_in w) 0 i i (omega arith)
 
 pub stmts_none : (n : NodeLists) (list : List StmtRef) → are_stmts_below list (length n.stmts) ≡ true → PutStmts n n list list []
 stmts_none n list h = record { grows = grows_same n; within = h; trees = sym (append-nil (trees_of (stmt_tree n) list)) }
@@ -104,29 +104,29 @@ ends_block (t ∷ ts) = ap (tree.InBlock t) (ends_block ts)
 
 -- ---- an address that may lie at or past the depth
 
-pub bounded_put : (n0 n1 n2 n3 : NodeLists) (before so : List StmtRef) (c : Ref) (i : ℕ) (p : Plan) (w : Write) (n : Name) (bits depth : ℕ) → before ≡ [] → PutStmts n0 n1 before so (parts_in p w)
-    → n ≡ net_in p w.adr.0 → bits ≡ (shapes p.design w.adr.0).bits → PutExpr n1 n2 c.place (bound_text n bits depth) → AddedStmt n2 n3 i (node.When c so None) → PutStmt n0 n3 i (bounded_in p w depth)
-bounded_put n0 n1 n2 n3 before so c i p w n bits depth none q e f put a =
-    let body = subst (λ (b : tree.VBlock). PutBlock n0 n1 so b) (ends_block (parts_in p w)) (stmts_block n0 n1 before so (parts_in p w) none q) in
-    let named : bound_text n bits depth ≡ bound_text (net_in p w.adr.0) (shapes p.design w.adr.0).bits depth =
-    ap (λ (m : Name). bound_text m bits depth) e ∙ ap (λ b. bound_text (net_in p w.adr.0) b depth) f in
+pub bounded_put : (n0 n1 n2 n3 : NodeLists) (before so : List StmtRef) (c : Ref) (i : ℕ) (w : Write) (n : Name) (bits depth : ℕ) → before ≡ [] → PutStmts n0 n1 before so (parts_in w)
+    → n ≡ (names_in w).adr → bits ≡ bits_in w → PutExpr n1 n2 c.place (bound_text n bits depth) → AddedStmt n2 n3 i (node.When c so None) → PutStmt n0 n3 i (bounded_in w depth)
+bounded_put n0 n1 n2 n3 before so c i w n bits depth none q e f put a =
+    let body = subst (λ (b : tree.VBlock). PutBlock n0 n1 so b) (ends_block (parts_in w)) (stmts_block n0 n1 before so (parts_in w) none q) in
+    let named : bound_text n bits depth ≡ bound_text (names_in w).adr (bits_in w) depth =
+    ap (λ (m : Name). bound_text m bits depth) e ∙ ap (λ b. bound_text (names_in w).adr b depth) f in
     let condition = subst (λ (t : tree.VExpr). PutExpr n1 n2 c.place t) named put in
-    when_put n0 n1 n1 n2 n3 so None c (block_of (parts_in p w)) tree.NoElse (bound_text (net_in p w.adr.0) (shapes p.design w.adr.0).bits depth) i body (no_else n1) condition a
+    when_put n0 n1 n1 n2 n3 so None c (block_of (parts_in w)) tree.NoElse (bound_text (names_in w).adr (bits_in w) depth) i body (no_else n1) condition a
 
-depth_is : (p : Plan) (w : Write) (m : Memory) → slice_get p.design.memories w.memory ≡ Some m → (memory_at p.design w.memory).depth ≡ m.depth
-depth_is p w m e = ap (λ (x : memory.Memory). x.depth) (memory_is p.design w.memory m e)
+depth_is : (w : Write) (m : Memory) → slice_get w.memory.sheet.now.design.memories w.memory.place ≡ Some m → depth_in w ≡ m.depth
+depth_is w m e = ap (λ (x : memory.Memory). x.depth) (memory_is w.memory.sheet.now.design w.memory.place m e)
 
 guarded_by : (adr : Name) (bits depth : ℕ) (ss : List tree.VStmt) (b : Bool) → nat_le (2 ^ bits) depth ≡ b → guarded adr bits depth ss ≡ cond b ss (tree.When (bound_text adr bits depth) (block_of ss) tree.NoElse ∷ [])
 guarded_by adr bits depth ss b e = ap (λ c. cond c ss (tree.When (bound_text adr bits depth) (block_of ss) tree.NoElse ∷ [])) e
 
-pub write_full : (p : Plan) (w : Write) (m : Memory) (bits : ℕ) → slice_get p.design.memories w.memory ≡ Some m → bits ≡ (shapes p.design w.adr.0).bits → nat_le (2 ^ bits) m.depth ≡ true → parts_in p w ≡ write_in p w
-write_full p w m bits e f h =
-    sym (guarded_by (net_in p w.adr.0) (shapes p.design w.adr.0).bits (memory_at p.design w.memory).depth (parts_in p w) true (ap (nat_le (2 ^ (shapes p.design w.adr.0).bits)) (depth_is p w m e) ∙ ap (λ b. nat_le (2 ^ b) m.depth) (sym f) ∙ h))
+pub write_full : (w : Write) (m : Memory) (bits : ℕ) → slice_get w.memory.sheet.now.design.memories w.memory.place ≡ Some m → bits ≡ bits_in w → nat_le (2 ^ bits) m.depth ≡ true → parts_in w ≡ write_in w
+write_full w m bits e f h =
+    sym (guarded_by (names_in w).adr (bits_in w) (depth_in w) (parts_in w) true (ap (nat_le (2 ^ bits_in w)) (depth_is w m e) ∙ ap (λ b. nat_le (2 ^ b) m.depth) (sym f) ∙ h))
 
-pub write_bounded : (p : Plan) (w : Write) (m : Memory) (bits : ℕ) → slice_get p.design.memories w.memory ≡ Some m → bits ≡ (shapes p.design w.adr.0).bits → nat_le (2 ^ bits) m.depth ≡ false → bounded_in p w m.depth ∷ [] ≡ write_in p w
-write_bounded p w m bits e f h =
-    ap (λ n. bounded_in p w n ∷ []) (sym (depth_is p w m e))
-    ∙ sym (guarded_by (net_in p w.adr.0) (shapes p.design w.adr.0).bits (memory_at p.design w.memory).depth (parts_in p w) false (ap (nat_le (2 ^ (shapes p.design w.adr.0).bits)) (depth_is p w m e) ∙ ap (λ b. nat_le (2 ^ b) m.depth) (sym f) ∙ h))
+pub write_bounded : (w : Write) (m : Memory) (bits : ℕ) → slice_get w.memory.sheet.now.design.memories w.memory.place ≡ Some m → bits ≡ bits_in w → nat_le (2 ^ bits) m.depth ≡ false → bounded_in w m.depth ∷ [] ≡ write_in w
+write_bounded w m bits e f h =
+    ap (λ n. bounded_in w n ∷ []) (sym (depth_is w m e))
+    ∙ sym (guarded_by (names_in w).adr (bits_in w) (depth_in w) (parts_in w) false (ap (nat_le (2 ^ bits_in w)) (depth_is w m e) ∙ ap (λ b. nat_le (2 ^ b) m.depth) (sym f) ∙ h))
 
 -- ---- what a port writes
 
@@ -148,7 +148,7 @@ without_dat_w p q h = writes_none p q (no_dat_w q.part q.dat_w q.we h)
 pub without_we : (p : Plan) (q : Port) → ((x : SigId) → q.we ≡ Some x → ⊥) → writes_in p q ≡ []
 without_we p q h = writes_none p q (no_we q.part q.dat_w q.we h)
 
-writers_there : (d : Design) (width part : ℕ) (a b : Option SigId) (x y : SigId) → a ≡ Some x → b ≡ Some y → WriterStands d width part a b → (x.0 < length d.signals) × (y.0 < length d.signals)
+pub writers_there : (d : Design) (width part : ℕ) (a b : Option SigId) (x y : SigId) → a ≡ Some x → b ≡ Some y → WriterStands d width part a b → (x.0 < length d.signals) × (y.0 < length d.signals)
 writers_there d width part None b x y e f h = absurd (cc)
 writers_there d width part (Some u) None x y e f h = absurd (cc)
 writers_there d width part (Some u) (Some v) x y e f h =
@@ -156,17 +156,24 @@ writers_there d width part (Some u) (Some v) x y e f h =
     let r : v ≡ y = cc in
     (subst (λ (z : SigId). z.0 < length d.signals) l h.0.there, subst (λ (z : SigId). z.0 < length d.signals) r h.1.there)
 
-pub write_is : (p : Plan) (q : Port) (m : Memory) (x y : SigId) → IsPort p.design q → slice_get p.design.memories q.memory ≡ Some m → q.dat_w ≡ Some x → q.we ≡ Some y
-    → IsWrite p q (record { memory = q.memory; adr = q.adr; dat_w = x; we = y; width = m.width; part = q.part })
-write_is p q m x y stands e f g =
-    let there = writers_there p.design (memory_at p.design q.memory).width q.part q.dat_w q.we x y f g stands.writer in
+-- the text of a port that writes
+write_is : (p : Plan) (q : Port) (m : Memory) (x y : SigId) → slice_get p.design.memories q.memory ≡ Some m → q.dat_w ≡ Some x → q.we ≡ Some y
+    → guarded (net_in p q.adr.0) (shapes p.design q.adr.0).bits (memory_at p.design q.memory).depth (parts_text (record { memory = memory_in p q.memory; adr = net_in p q.adr.0; dat_w = net_in p x.0; we = net_in p y.0 }) m.width q.part) ≡ writes_in p q
+write_is p q m x y e f g =
     let width : (memory_at p.design q.memory).width ≡ m.width = ap (λ (z : memory.Memory). z.width) (memory_is p.design q.memory m e) in
-    record {
-      there = record { memory = stands.memory; adr = stands.adr.there; dat_w = there.0; we = there.1; some = stands.part_some };
-      text =
-          ap (λ n. write_in p (record { memory = q.memory; adr = q.adr; dat_w = x; we = y; width = n; part = q.part })) (sym width)
-          ∙ sym (ap (writes_text p.design p.names (port_of q)) (ap (λ (o : Option SigId). writer_of q.part o q.we) f ∙ ap (λ (o : Option SigId). writer_of q.part (Some x) o) g));
-    }
+    ap (λ n. guarded (net_in p q.adr.0) (shapes p.design q.adr.0).bits (memory_at p.design q.memory).depth (parts_text (record { memory = memory_in p q.memory; adr = net_in p q.adr.0; dat_w = net_in p x.0; we = net_in p y.0 }) n q.part)) (sym width)
+    ∙ sym (ap (writes_text p.design p.names (port_of q)) (ap (λ (o : Option SigId). writer_of q.part o q.we) f ∙ ap (λ (o : Option SigId). writer_of q.part (Some x) o) g))
+
+-- that text, of what is read of a sheet
+abbrev text_by : Plan → ℕ → Plan → SigId → Plan → SigId → Plan → SigId → ℕ → ℕ → List tree.VStmt
+text_by pm k pa a pd d pw e width part =
+    guarded (net_in pa a.0) (shapes pa.design a.0).bits (memory_at pm.design k).depth (parts_text (record { memory = memory_in pm k; adr = net_in pa a.0; dat_w = net_in pd d.0; we = net_in pw e.0 }) width part)
+
+pub written_by : (pm pa pd pw p : Plan) (k : ℕ) (a d e : SigId) (q : Port) (m : Memory) (x y : SigId) → pm ≡ p → k ≡ q.memory → pa ≡ p → a ≡ q.adr → pd ≡ p → d ≡ x → pw ≡ p → e ≡ y
+    → slice_get pm.design.memories k ≡ Some m → q.dat_w ≡ Some x → q.we ≡ Some y → text_by pm k pa a pd d pw e m.width q.part ≡ writes_in p q
+written_by pm pa pd pw p k a d e q m x y sm sk sa fa sd fd sw fw item g h =
+    (λ i. text_by (sm i) (sk i) (sa i) (fa i) (sd i) (fd i) (sw i) (fw i) m.width q.part)
+    ∙ write_is p q m x y ((λ i. slice_get (sym sm i).design.memories (sym sk i)) ∙ item) g h
 
 pub other_memory : (p : Plan) (q : Port) (k : ℕ) → nat_eq q.memory k ≡ false → [] ≡ port_in p k q
 unfolding port_text

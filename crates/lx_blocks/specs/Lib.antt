@@ -1,3 +1,4 @@
+pub mod Bodies
 pub mod Lines
 pub mod Plans
 pub mod Puts

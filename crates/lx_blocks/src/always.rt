@@ -1,6 +1,6 @@
 //! Always blocks (IEEE 1364-2005, "Procedural blocks").
 
-ghost use Rattle.std.specs.Prelude.{[], ◌++◌, ◌<◌, length, IfOk, IsTrue, OnOk};
+ghost use Rattle.std.specs.Prelude.{[], ◌++◌, length, IfOk, IsTrue, OnOk};
 ghost use Rattle.lx_vtree.specs.Modules.{are_blocks_placed};
 ghost use Rattle.lx_emission.specs.Signals.{signal_always};
 ghost use Rattle.lx_blocks.specs.Lines.{PutAlways, all_signals_in};
@@ -10,8 +10,7 @@ use crate::blocks::{put_clocked, put_combined};
 use crate::writes::put_memories;
 use lx_fhdl::SigId;
 use lx_sheet::names::clock_name;
-use lx_sheet::tables::drive_of;
-use lx_sheet::{Drive, Sheet};
+use lx_sheet::{Drive, Sheet, SignalOf};
 use lx_text::{List, NoMemory};
 use lx_vtree::{Always, Nodes};
 use std::alloc::Global;
@@ -20,23 +19,22 @@ use std::alloc::Global;
 fn put_signal(
     alloc: Global,
     nodes: &mut Nodes,
-    sheet: &Sheet,
     blocks: &mut List<Always>,
-    x: SigId,
+    x: SignalOf,
 ) -> Result<(), NoMemory>
     requires blocks { IsTrue (are_blocks_placed (length nodes.old.stmts) blocks.old) }
-    requires signal { x.0 < length sheet.now.design.signals }
-    ensures { OnOk result (PutAlways nodes.old nodes.new blocks.old blocks.new (signal_always sheet.now.design sheet.now.names x.0)) }
+    ensures { OnOk result (PutAlways nodes.old nodes.new blocks.old blocks.new (signal_always x.entry.sheet.now.design x.entry.sheet.now.names x.entry.id.0)) }
 {
-    match drive_of(sheet, x) {
+    let sheet = x.sheet;
+    match x.drive() {
         Drive::Input | Drive::Undriven | Drive::CombAssign(_) => Ok(()),
         Drive::CombBlock(ids) => {
-            let body = put_combined(alloc, nodes, sheet, x, ids.as_slice())?;
+            let body = put_combined(alloc, nodes, x, ids.as_slice())?;
             blocks.push(Always { clock: None, body })
         }
         Drive::Sync { domain, body: ids } => {
             let clock = clock_name(alloc, sheet.design.domains.at(*domain))?;
-            let body = put_clocked(alloc, nodes, sheet, x, *domain, ids.as_slice())?;
+            let body = put_clocked(alloc, nodes, x, *domain, ids.as_slice())?;
             let clock = Some(clock);
             blocks.push(Always { clock, body })
         }
@@ -54,7 +52,7 @@ fn put_signals(
     ensures { OnOk result (PutAlways nodes.old nodes.new blocks.old blocks.new (all_signals_in sheet.now)) }
 {
     for x in 0..sheet.design.signals.len() {
-        put_signal(alloc, nodes, sheet, blocks, SigId(x))?;
+        put_signal(alloc, nodes, blocks, SignalOf::new(&*sheet, SigId(x)))?;
     }
     Ok(())
 }

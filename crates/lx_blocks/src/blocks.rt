@@ -1,22 +1,19 @@
 //! The blocks that drive signals (IEEE 1364-2005, "Structured procedures").
 
-ghost use Rattle.std.specs.Prelude.{◌≡◌, ◌<◌, length, IfOk, IsTrue, IfSome};
+ghost use Rattle.std.specs.Prelude.{◌≡◌, ◌<◌, length, IfOk};
 ghost use Rattle.lx_vtree.specs.Growth.{PutStmt};
-ghost use Rattle.lx_fhdl.specs.Below.{all_stmts_below};
-ghost use Rattle.lx_fhdl.specs.Designs as designs;
-ghost use Rattle.lx_fhdl.specs.Lowered.{ArePlain};
 ghost use Rattle.lx_emission.specs.Signals.{comb_body, sync_body};
+ghost use Rattle.lx_blocks.specs.Bodies.{IsBody};
 ghost use Rattle.lx_blocks.specs.Plans.{reset_assign_in, reset_block_in};
 ghost use Rattle.lx_blocks.specs.Puts.{PutBlock};
 ghost use Rattle.lx_blocks.specs.Resets.{block_by, reset_stmt};
 
 use crate::stmts::put_stmts;
-use lx_fhdl::{SigId, StmtId};
-use lx_sheet::Sheet;
+use lx_fhdl::StmtId;
+use lx_sheet::SignalOf;
 use lx_sheet::operands::put_net;
 use lx_sheet::resets::put_reset;
-use lx_sheet::tables::net_name;
-use lx_text::{List, NoMemory};
+use lx_text::{List, NoMemory, Word};
 use lx_vtree::{Nodes, StmtId as VStmtId, VStmt, VTarget};
 use std::alloc::Global;
 
@@ -24,15 +21,13 @@ use std::alloc::Global;
 fn put_reset_assign(
     alloc: Global,
     nodes: &mut Nodes,
-    sheet: &Sheet,
-    x: SigId,
+    x: SignalOf,
     blocking: bool,
 ) -> Result<VStmtId, NoMemory>
-    requires { x.0 < length sheet.now.design.signals }
-    ensures { IfOk result (λ i. PutStmt nodes.old nodes.new i.place (reset_assign_in sheet.now blocking x.0)) }
+    ensures { IfOk result (λ i. PutStmt nodes.old nodes.new i.place (reset_assign_in x.entry.sheet.now blocking x.entry.id.0)) }
 {
-    let target = VTarget::Whole(net_name(alloc, sheet, x)?);
-    let value = put_reset(nodes, sheet, x)?;
+    let target = VTarget::Whole(x.name(alloc)?);
+    let value = put_reset(nodes, x)?;
     let node = VStmt::Assign {
         target,
         blocking,
@@ -45,18 +40,14 @@ fn put_reset_assign(
 fn put_reset_stmt(
     alloc: Global,
     nodes: &mut Nodes,
-    sheet: &Sheet,
-    x: SigId,
-    reset: SigId,
+    x: SignalOf,
+    reset: Word,
 ) -> Result<VStmtId, NoMemory>
-    requires signal { x.0 < length sheet.now.design.signals }
-    requires reset { reset.0 < length sheet.now.design.signals }
-    ensures { IfOk result (λ i. PutStmt nodes.old nodes.new i.place (reset_stmt sheet.now.design sheet.now.names x.0 reset)) }
+    ensures { IfOk result (λ i. PutStmt nodes.old nodes.new i.place (reset_stmt x.entry.sheet.now x.entry.id.0 reset)) }
 {
-    let assign = put_reset_assign(alloc, nodes, sheet, x, false)?;
+    let assign = put_reset_assign(alloc, nodes, x, false)?;
     let so = List::of_one(alloc, assign)?;
-    let name = net_name(alloc, sheet, reset)?;
-    let cond = put_net(nodes, name)?;
+    let cond = put_net(nodes, reset)?;
     let other = None;
     nodes.add_stmt(VStmt::When { cond, so, other })
 }
@@ -65,32 +56,31 @@ fn put_reset_stmt(
 pub fn put_combined(
     alloc: Global,
     nodes: &mut Nodes,
-    sheet: &Sheet,
-    x: SigId,
+    x: SignalOf,
     body: &[StmtId],
 ) -> Result<List<VStmtId>, NoMemory>
-    requires signal { x.0 < length sheet.now.design.signals }
-    requires below { IsTrue (all_stmts_below (length sheet.now.design.stmts) body.now) }
-    requires plain { ArePlain (designs.block sheet.now.design body.now) }
-    ensures { IfOk result (λ list. PutBlock nodes.old nodes.new list (comb_body sheet.now.design sheet.now.names x.0 body.now)) }
+    requires { IsBody x.sheet.now (length x.sheet.now.design.stmts) body.now }
+    ensures { IfOk result (λ list. PutBlock nodes.old nodes.new list (comb_body x.entry.sheet.now.design x.entry.sheet.now.names x.entry.id.0 body.now)) }
 {
+    let sheet = x.sheet;
     let bound = sheet.design.stmts.len();
-    let first = put_reset_assign(alloc, nodes, sheet, x, true)?;
+    let first = put_reset_assign(alloc, nodes, x, true)?;
     let list = List::of_one(alloc, first)?;
     put_stmts(alloc, nodes, sheet, true, body, bound, list)
 }
 
-// The reset of a domain, where the signal takes part in it.
-fn reset_of(sheet: &Sheet, x: SigId, domain: usize) -> Option<SigId>
-    requires signal { x.0 < length sheet.now.design.signals }
-    requires domain { domain < length sheet.now.design.domains }
-    ensures block { block_by sheet.now.design sheet.now.names x.0 result ≡ reset_block_in sheet.now x.0 domain }
-    ensures there { IfSome result (λ r. r.0 < length sheet.now.design.signals) }
+// The name of a domain's reset, where the signal takes part in it.
+fn reset_name(alloc: Global, x: SignalOf, domain: usize) -> Result<Option<Word>, NoMemory>
+    requires { domain < length x.sheet.now.design.domains }
+    ensures { IfOk result (λ name. block_by x.entry.sheet.now x.entry.id.0 name ≡ reset_block_in x.entry.sheet.now x.entry.id.0 domain) }
 {
-    if sheet.design.signals.at(x.0).reset_less {
-        None
-    } else {
-        sheet.design.domains.at(domain).reset
+    let sheet = x.sheet;
+    if sheet.design.signals.at(x.id.0).reset_less {
+        return Ok(None);
+    }
+    match sheet.design.domains.at(domain).reset {
+        Some(reset) => Ok(Some(SignalOf::new(&*sheet, reset).name(alloc)?)),
+        None => Ok(None),
     }
 }
 
@@ -98,24 +88,23 @@ fn reset_of(sheet: &Sheet, x: SigId, domain: usize) -> Option<SigId>
 pub fn put_clocked(
     alloc: Global,
     nodes: &mut Nodes,
-    sheet: &Sheet,
-    x: SigId,
+    x: SignalOf,
     domain: usize,
     body: &[StmtId],
 ) -> Result<List<VStmtId>, NoMemory>
-    requires signal { x.0 < length sheet.now.design.signals }
-    requires domain { domain < length sheet.now.design.domains }
-    requires below { IsTrue (all_stmts_below (length sheet.now.design.stmts) body.now) }
-    requires plain { ArePlain (designs.block sheet.now.design body.now) }
-    ensures { IfOk result (λ list. PutBlock nodes.old nodes.new list (sync_body sheet.now.design sheet.now.names x.0 domain body.now)) }
+    requires domain { domain < length x.sheet.now.design.domains }
+    requires body { IsBody x.sheet.now (length x.sheet.now.design.stmts) body.now }
+    ensures { IfOk result (λ list. PutBlock nodes.old nodes.new list (sync_body x.entry.sheet.now.design x.entry.sheet.now.names x.entry.id.0 domain body.now)) }
 {
+    let sheet = x.sheet;
     let bound = sheet.design.stmts.len();
     let empty = List::new(alloc);
     let mut list = put_stmts(alloc, nodes, sheet, false, body, bound, empty)?;
-    let Some(reset) = reset_of(sheet, x, domain) else {
+    let reset = reset_name(alloc, x, domain)?;
+    let Some(reset) = reset else {
         return Ok(list);
     };
-    let last = put_reset_stmt(alloc, nodes, sheet, x, reset)?;
+    let last = put_reset_stmt(alloc, nodes, x, reset)?;
     list.push(last)?;
     Ok(list)
 }

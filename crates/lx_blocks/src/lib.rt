@@ -4,4 +4,5 @@
 pub mod always;
 pub mod blocks;
 pub mod stmts;
+pub mod write;
 pub mod writes;

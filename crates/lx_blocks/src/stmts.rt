@@ -5,18 +5,17 @@ ghost use Rattle.lx_vtext.specs.Tree as tree;
 ghost use Rattle.lx_vtree.specs.Growth.{PutStmt};
 ghost use Rattle.lx_vtree.specs.Stmts.{are_stmts_below};
 ghost use Rattle.lx_fhdl.specs.Designs as designs;
-ghost use Rattle.lx_fhdl.specs.Below.{all_stmts_below};
-ghost use Rattle.lx_fhdl.specs.Lowered.{IsPlain, ArePlain};
+ghost use Rattle.lx_fhdl.specs.Lowered.{IsPlain};
 ghost use Rattle.lx_emission.specs.Texts.{covers, block_onto, else_text};
+ghost use Rattle.lx_blocks.specs.Bodies.{IsAssignment, IsBody, IsChoice};
 ghost use Rattle.lx_blocks.specs.Plans.{assign_in, stmt_in, target_in, when_in};
 ghost use Rattle.lx_sheet.specs.Drives.{IsPlainTarget};
 ghost use Rattle.lx_blocks.specs.Puts.{IsTarget, PutBlock, PutElse, PutStmts, texts_of};
 
-use lx_fhdl::{Branch, ExprId, SigId, Stmt, StmtId, Target, TargetId};
-use lx_sheet::Sheet;
+use lx_fhdl::{Branch, ExprId, Stmt, StmtId, Target, TargetId};
 use lx_sheet::operands::put_operand;
-use lx_sheet::tables::{net_name, shape_of_signal};
-use lx_text::{List, NoMemory, Word};
+use lx_sheet::{Sheet, SignalOf};
+use lx_text::{List, NoMemory};
 use lx_vtree::{Nodes, StmtId as VStmtId, VStmt, VTarget};
 use std::alloc::Global;
 
@@ -28,13 +27,12 @@ fn covers(bits: u8, low: u8, len: u8) -> bool
 }
 
 // Some bits of a signal; a slice that covers it is the whole.
-fn part(alloc: Global, sheet: &Sheet, signal: SigId, low: u8, len: u8) -> Result<VTarget, NoMemory>
-    requires signal { signal.0 < length sheet.now.design.signals }
-    requires some { 1 ≤ len }
-    ensures { IfOk result (λ t. IsTarget t (target_in sheet.now (Some (Target.Part signal low len)))) }
+fn part(alloc: Global, x: SignalOf, low: u8, len: u8) -> Result<VTarget, NoMemory>
+    requires { 1 ≤ len }
+    ensures { IfOk result (λ t. IsTarget t (target_in x.entry.sheet.now (Some (Target.Part x.entry.id low len)))) }
 {
-    let name = net_name(alloc, sheet, signal)?;
-    if covers(shape_of_signal(sheet, signal).bits, low, len) {
+    let name = x.name(alloc)?;
+    if covers(x.shape().bits, low, len) {
         return Ok(VTarget::Whole(name));
     }
     let lo = low as u64;
@@ -49,8 +47,13 @@ pub fn make_target(alloc: Global, sheet: &Sheet, id: TargetId) -> Result<VTarget
     ensures { IfOk result (λ t. IsTarget t (target_in sheet.now (slice_get sheet.now.design.targets id.place))) }
 {
     match sheet.design.targets.get(id) {
-        Target::Whole(signal) => Ok(VTarget::Whole(net_name(alloc, sheet, *signal)?)),
-        Target::Part { signal, low, len } => part(alloc, sheet, *signal, *low, *len),
+        Target::Whole(signal) => {
+            let signal = SignalOf::new(&*sheet, *signal);
+            Ok(VTarget::Whole(signal.name(alloc)?))
+        }
+        Target::Part { signal, low, len } => {
+            part(alloc, SignalOf::new(&*sheet, *signal), *low, *len)
+        }
         Target::Cat(_) | Target::Pick { .. } => unreachable!(),
     }
 }
@@ -64,9 +67,7 @@ fn put_assign(
     target: TargetId,
     value: ExprId,
 ) -> Result<VStmtId, NoMemory>
-    requires target { target.place < length sheet.now.design.targets }
-    requires value { value.place < length sheet.now.design.exprs }
-    requires plain { IsPlainTarget (designs.target sheet.now.design target.place) }
+    requires { IsAssignment sheet.now target value }
     ensures { IfOk result (λ i. PutStmt nodes.old nodes.new i.place (assign_in sheet.now blocking target value)) }
 {
     let target = make_target(alloc, sheet, target)?;
@@ -90,12 +91,7 @@ fn put_when(
     rest: &[StmtId],
     bound: usize,
 ) -> Result<VStmtId, NoMemory>
-    requires within { bound ≤ length sheet.now.design.stmts }
-    requires cond { branch.now.cond.place < length sheet.now.design.exprs }
-    requires body { IsTrue (all_stmts_below bound branch.now.body) }
-    requires rest { IsTrue (all_stmts_below bound rest.now) }
-    requires plain_body { ArePlain (designs.block sheet.now.design branch.now.body) }
-    requires plain_rest { ArePlain (designs.block sheet.now.design rest.now) }
+    requires { IsChoice sheet.now bound branch.now rest.now }
     ensures { IfOk result (λ i. PutStmt nodes.old nodes.new i.place (when_in sheet.now blocking branch.now rest.now)) }
 {
     let so = put_block(alloc, nodes, sheet, blocking, branch.body.as_slice(), bound)?;
@@ -140,9 +136,7 @@ fn put_else(
     ids: &[StmtId],
     bound: usize,
 ) -> Result<Option<List<VStmtId>>, NoMemory>
-    requires within { bound ≤ length sheet.now.design.stmts }
-    requires below { IsTrue (all_stmts_below bound ids.now) }
-    requires plain { ArePlain (designs.block sheet.now.design ids.now) }
+    requires { IsBody sheet.now bound ids.now }
     ensures { IfOk result (λ list. PutElse nodes.old nodes.new list (else_text (stmt_in sheet.now blocking) ids.now)) }
 {
     if ids.is_empty() {
@@ -162,9 +156,7 @@ pub fn put_block(
     ids: &[StmtId],
     bound: usize,
 ) -> Result<List<VStmtId>, NoMemory>
-    requires within { bound ≤ length sheet.now.design.stmts }
-    requires below { IsTrue (all_stmts_below bound ids.now) }
-    requires plain { ArePlain (designs.block sheet.now.design ids.now) }
+    requires { IsBody sheet.now bound ids.now }
     ensures { IfOk result (λ list. PutBlock nodes.old nodes.new list (block_onto (stmt_in sheet.now blocking) ids.now tree.EndBlock)) }
 {
     let list = List::new(alloc);
@@ -182,9 +174,7 @@ pub fn put_stmts(
     bound: usize,
     list: List<VStmtId>,
 ) -> Result<List<VStmtId>, NoMemory>
-    requires within { bound ≤ length sheet.now.design.stmts }
-    requires below { IsTrue (all_stmts_below bound ids.now) }
-    requires plain { ArePlain (designs.block sheet.now.design ids.now) }
+    requires body { IsBody sheet.now bound ids.now }
     requires there { IsTrue (are_stmts_below list (length nodes.old.stmts)) }
     ensures { IfOk result (λ after. PutStmts nodes.old nodes.new list after (texts_of (stmt_in sheet.now blocking) ids.now)) }
 {

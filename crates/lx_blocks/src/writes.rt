@@ -9,30 +9,19 @@ ghost use Rattle.lx_fhdl.specs.Keeping.{IsPort};
 ghost use Rattle.lx_emission.specs.Memories.{field_text, word_target, writes_memory, writing_domain};
 ghost use Rattle.lx_blocks.specs.Lines.{PutAlways};
 ghost use Rattle.lx_blocks.specs.Puts.{IsWordTarget, PutBlock, PutStmts};
-ghost use Rattle.lx_blocks.specs.Writes.{IsThereWrite, IsWriteOf, all_writes_in, bound_text, bounded_in, memory_always_in, memory_body_in, part_in, parts_in, port_in, word_in, write_in};
+ghost use Rattle.lx_blocks.specs.Writes.{IsWriteOf, all_writes_in, bound_text, bounded_in, memory_always_in, memory_body_in, part_in, parts_in, port_in, word_in, write_in};
 
-use lx_fhdl::{Port, SigId};
-use lx_sheet::Sheet;
+use crate::write::Write;
+use lx_fhdl::Port;
 use lx_sheet::names::clock_name;
 use lx_sheet::operands::{put_literal, put_net};
-use lx_sheet::tables::{memory_name, net_name, shape_of_signal};
+use lx_sheet::{MemoryOf, Sheet, SignalOf};
 use lx_text::{List, NoMemory, Word};
 use lx_vtext::BinOp;
 use lx_vtree::{
     Always, ExprId as VExprId, Literal, Nodes, StmtId as VStmtId, VExpr, VStmt, VTarget,
 };
 use std::alloc::Global;
-
-/// What a port writes: its memory, the signals that it writes by, and the bits of a word and of its parts.
-#[derive(Clone, Copy)]
-pub struct Write {
-    pub memory: usize,
-    pub adr: SigId,
-    pub dat_w: SigId,
-    pub we: SigId,
-    pub width: u8,
-    pub part: u8,
-}
 
 // Bits `low` to `low + len - 1` of a net of so many bits; a select never covers its name.
 fn put_field(
@@ -72,22 +61,15 @@ fn word_part(name: Word, index: VExprId, bits: u8, low: u32, len: u8) -> VTarget
 }
 
 // `memory[adr][hi:lo] <= dat_w[hi:lo];` for a part.
-fn put_word(
-    alloc: Global,
-    nodes: &mut Nodes,
-    sheet: &Sheet,
-    write: Write,
-    i: u8,
-) -> Result<VStmtId, NoMemory>
-    requires { IsThereWrite sheet.now write }
-    ensures { IfOk result (λ s. PutStmt nodes.old nodes.new s.place (word_in sheet.now write i)) }
+fn put_word(alloc: Global, nodes: &mut Nodes, write: Write, i: u8) -> Result<VStmtId, NoMemory>
+    ensures { IfOk result (λ s. PutStmt nodes.old nodes.new s.place (word_in write.entry i)) }
 {
     let low = write.part as u32 * i as u32;
-    let adr = net_name(alloc, sheet, write.adr)?;
+    let adr = write.adr.name(alloc)?;
     let index = put_net(nodes, adr)?;
-    let name = memory_name(alloc, sheet, write.memory)?;
+    let name = write.memory.name(alloc)?;
     let target = word_part(name, index, write.width, low, write.part);
-    let data = net_name(alloc, sheet, write.dat_w)?;
+    let data = write.dat_w.name(alloc)?;
     let value = put_field(nodes, data, write.width, low, write.part)?;
     let node = VStmt::Assign {
         target,
@@ -98,19 +80,12 @@ fn put_word(
 }
 
 // `if (we[i:i]) begin`, the part, `end`.
-fn put_part(
-    alloc: Global,
-    nodes: &mut Nodes,
-    sheet: &Sheet,
-    write: Write,
-    i: u8,
-) -> Result<VStmtId, NoMemory>
-    requires { IsThereWrite sheet.now write }
-    ensures { IfOk result (λ s. PutStmt nodes.old nodes.new s.place (part_in sheet.now write i)) }
+fn put_part(alloc: Global, nodes: &mut Nodes, write: Write, i: u8) -> Result<VStmtId, NoMemory>
+    ensures { IfOk result (λ s. PutStmt nodes.old nodes.new s.place (part_in write.entry i)) }
 {
-    let assign = put_word(alloc, nodes, sheet, write, i)?;
+    let assign = put_word(alloc, nodes, write, i)?;
     let so = List::of_one(alloc, assign)?;
-    let we = net_name(alloc, sheet, write.we)?;
+    let we = write.we.name(alloc)?;
     let cond = put_field(nodes, we, write.width / write.part, i as u32, 1)?;
     let other = None;
     nodes.add_stmt(VStmt::When { cond, so, other })
@@ -120,17 +95,15 @@ fn put_part(
 fn put_parts(
     alloc: Global,
     nodes: &mut Nodes,
-    sheet: &Sheet,
     write: Write,
     list: List<VStmtId>,
 ) -> Result<List<VStmtId>, NoMemory>
-    requires there { IsThereWrite sheet.now write }
-    requires list { IsTrue (are_stmts_below list (length nodes.old.stmts)) }
-    ensures { IfOk result (λ after. PutStmts nodes.old nodes.new list after (parts_in sheet.now write)) }
+    requires { IsTrue (are_stmts_below list (length nodes.old.stmts)) }
+    ensures { IfOk result (λ after. PutStmts nodes.old nodes.new list after (parts_in write.entry)) }
 {
     let mut after = list;
     for i in 0..write.width / write.part {
-        let part = put_part(alloc, nodes, sheet, write, i)?;
+        let part = put_part(alloc, nodes, write, i)?;
         after.push(part)?;
     }
     Ok(after)
@@ -156,17 +129,15 @@ fn put_bound(nodes: &mut Nodes, adr: Word, bits: u8, depth: u32) -> Result<VExpr
 fn put_bounded(
     alloc: Global,
     nodes: &mut Nodes,
-    sheet: &Sheet,
     write: Write,
     depth: u32,
 ) -> Result<VStmtId, NoMemory>
-    requires { IsThereWrite sheet.now write }
-    ensures { IfOk result (λ s. PutStmt nodes.old nodes.new s.place (bounded_in sheet.now write depth)) }
+    ensures { IfOk result (λ s. PutStmt nodes.old nodes.new s.place (bounded_in write.entry depth)) }
 {
     let empty = List::new(alloc);
-    let so = put_parts(alloc, nodes, sheet, write, empty)?;
-    let bits = shape_of_signal(sheet, write.adr).bits;
-    let adr = net_name(alloc, sheet, write.adr)?;
+    let so = put_parts(alloc, nodes, write, empty)?;
+    let bits = write.adr.shape().bits;
+    let adr = write.adr.name(alloc)?;
     let cond = put_bound(nodes, adr, bits, depth)?;
     let other = None;
     nodes.add_stmt(VStmt::When { cond, so, other })
@@ -184,26 +155,24 @@ fn is_full(bits: u8, depth: u32) -> bool
 fn put_write(
     alloc: Global,
     nodes: &mut Nodes,
-    sheet: &Sheet,
     write: Write,
     list: List<VStmtId>,
 ) -> Result<List<VStmtId>, NoMemory>
-    requires there { IsThereWrite sheet.now write }
-    requires list { IsTrue (are_stmts_below list (length nodes.old.stmts)) }
-    ensures { IfOk result (λ after. PutStmts nodes.old nodes.new list after (write_in sheet.now write)) }
+    requires { IsTrue (are_stmts_below list (length nodes.old.stmts)) }
+    ensures { IfOk result (λ after. PutStmts nodes.old nodes.new list after (write_in write.entry)) }
 {
-    let depth = sheet.design.memories.at(write.memory).depth;
-    if is_full(shape_of_signal(sheet, write.adr).bits, depth) {
-        return put_parts(alloc, nodes, sheet, write, list);
+    let depth = write.memory.memory().depth;
+    if is_full(write.adr.shape().bits, depth) {
+        return put_parts(alloc, nodes, write, list);
     }
     let mut after = list;
-    let bounded = put_bounded(alloc, nodes, sheet, write, depth)?;
+    let bounded = put_bounded(alloc, nodes, write, depth)?;
     after.push(bounded)?;
     Ok(after)
 }
 
 // What a port writes, where it does.
-fn write_of(sheet: &Sheet, port: &Port) -> Option<Write>
+fn write_of<'a>(sheet: &'a Sheet<'a>, port: &Port) -> Option<Write<'a>>
     requires { IsPort sheet.now.design port.now }
     ensures { IsWriteOf sheet.now port.now result }
 {
@@ -213,12 +182,13 @@ fn write_of(sheet: &Sheet, port: &Port) -> Option<Write>
     let Some(we) = port.we else {
         return None;
     };
+    let memory = MemoryOf::new(&*sheet, port.memory);
     Some(Write {
-        memory: port.memory,
-        adr: port.adr,
-        dat_w,
-        we,
-        width: sheet.design.memories.at(port.memory).width,
+        memory,
+        adr: SignalOf::new(&*sheet, port.adr),
+        dat_w: SignalOf::new(&*sheet, dat_w),
+        we: SignalOf::new(&*sheet, we),
+        width: memory.memory().width,
         part: port.part,
     })
 }
@@ -240,7 +210,7 @@ fn put_port(
         return Ok(list);
     }
     match write_of(sheet, port) {
-        Some(write) => put_write(alloc, nodes, sheet, write, list),
+        Some(write) => put_write(alloc, nodes, write, list),
         None => Ok(list),
     }
 }

@@ -11,7 +11,6 @@ use Rattle.lx_fhdl.specs.Keeping.{Keeps}
 use Rattle.lx_fhdl.specs.Lowered.{IsPlain, is_plain_target, is_for, are_for, branches_are_for, is_lone}
 use Rattle.lx_fhdl.specs.declared.exprs.SigId.{SigId}
 use Rattle.lx_fhdl.specs.declared.stmts.Branch.{Branch}
-use Rattle.lx_fhdl.specs.declared.stmts.Stmt.{Stmt}
 use Rattle.lx_fhdl.specs.declared.design.Design.{Design}
 use Rattle.lx_sheet.specs.Drives.{IsPlainTarget}
 use Rattle.lx_drives.specs.Drives.{first_of, first_inside}

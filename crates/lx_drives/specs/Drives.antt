@@ -2,14 +2,14 @@
 use Rattle.std.specs.Prelude.{◌≡◌, ℕ, Bool, true, false, ◌+◌, ◌<◌, ◌≤◌, ◌&&◌, List, [], ◌∷◌, ◌++◌, Option, Some, None, drop, length, nat_eq, not, slice_index_or, if◌then◌else◌}
 use Rattle.lx_circuit.specs.Circuit.{made}
 use Rattle.lx_fhdl.specs.Below.{ExprId, StmtId}
-use Rattle.lx_fhdl.specs.Designs.{block, circuit_of, stmts_of}
+use Rattle.lx_fhdl.specs.Designs.{circuit_of, stmts_of}
 use Rattle.lx_fhdl.specs.declared.stmts.Branch.{Branch}
 use Rattle.lx_fhdl.specs.declared.design.Domain.{Domain}
 use Rattle.lx_fhdl.specs.declared.design.Design.{Design}
 use Rattle.lx_emission.specs.Emission.{is_port}
 use Rattle.lx_emission.specs.Signals.{own, single}
 use Rattle.lx_sheet.specs.declared.drive.Drive.{Drive}
-use Rattle.lx_sheet.specs.declared.drive.Drive.TheVariants.{Input, Undriven, CombAssign, CombBlock, Sync}
+use Rattle.lx_sheet.specs.declared.drive.Drive.TheVariants.{Undriven}
 use Rattle.lx_emission.specs.Signals as signals
 use Rattle.lx_sheet.specs.Drives.{drive_of, IsThere}
 

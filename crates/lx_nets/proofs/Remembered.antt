@@ -1,5 +1,5 @@
 -- Memories: their declarations and first words.
-use Rattle.std.proofs.Common.{◌≡◌, ℕ, ◌+◌, ◌<◌, List, [], ◌∷◌, ◌++◌, map, sym, ap, ◌∙◌, arith}
+use Rattle.std.proofs.Common.{◌≡◌, ℕ, ◌+◌, List, [], ◌∷◌, ◌++◌, map, sym, ap, ◌∙◌, arith}
 use Rattle.std.specs.Prelude.{Some, slice_get}
 use Rattle.std.specs.List.{range_with_len}
 use Rattle.std.proofs.lemmas.List.FromFn.{map-range_with_len_more}
@@ -7,9 +7,7 @@ use Rattle.lx_vtext.specs.Tree.{Name, VSet}
 use Rattle.lx_vtree.specs.declared.modules.WordInit.{WordInit}
 use Rattle.lx_vtree.specs.Modules.{literal_of, set_of}
 use Rattle.lx_fhdl.specs.Designs.{memory_of}
-use Rattle.lx_fhdl.specs.Keeping.{IsMemory, Keeps}
 use Rattle.lx_fhdl.specs.declared.design.Memory.{Memory}
-use Rattle.lx_fhdl.specs.declared.design.Design.{Design}
 use Rattle.lx_emission.specs.Memories.{memory_decl, set_line, first_words}
 use Rattle.lx_nets.specs.Memories.{first_words_in, memory_decl_in, word_literal}
 use Rattle.lx_sheet.specs.Plans.{Plan, memory_in}
@@ -17,13 +15,6 @@ use Rattle.lx_sheet.proofs.Lines.{line_more}
 use Rattle.lx_circuit.specs.Memories as circuit
 use Rattle.lx_vtext.specs.Tree as tree
 use Rattle.lx_sheet.proofs.Remembered.{memory_is}
-use Rattle.lx_fhdl.proofs.Resets.{each_of_at}
-
-pub memory_keeps : (d : Design) (k : ℕ) (m : Memory) → Keeps d → slice_get d.memories k ≡ Some m → IsMemory m
-memory_keeps d k m keeps e = each_of_at IsMemory d.memories keeps.memories k m e
-
-pub narrow : (d : Design) (k : ℕ) (m : Memory) → Keeps d → slice_get d.memories k ≡ Some m → m.width < 128
-narrow d k m keeps e = let h = memory_keeps d k m keeps e in omega (arith, h.width_most)
 
 pub decl_is : (p : Plan) (k : ℕ) (m : Memory) (n : Name) → slice_get p.design.memories k ≡ Some m → n ≡ memory_in p k → tree.MemoryDecl (record { bits = m.width; name = n; depth = m.depth }) ≡ memory_decl_in p k
 decl_is p k m n e f =

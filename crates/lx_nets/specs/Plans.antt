@@ -4,7 +4,7 @@ use Rattle.lx_vtext.specs.Tree.{VExpr, VNet, VPort, VDecl, VAssign}
 use Rattle.lx_fhdl.specs.declared.exprs.SigId.{SigId}
 use Rattle.lx_fhdl.specs.declared.design.Domain.{Domain}
 use Rattle.lx_emission.specs.Emission.{inner_decl, node_assign, node_decl, places_from, reset_port, signal_port, wire}
-use Rattle.lx_emission.specs.Naming.{clock_name, net, node_net}
+use Rattle.lx_emission.specs.Naming.{clock_name, node_net}
 use Rattle.lx_emission.specs.Nodes.{node_shape, node_text}
 use Rattle.lx_emission.specs.Signals.{signal_assign}
 use Rattle.lx_sheet.specs.Plans.{Plan}

@@ -1,6 +1,6 @@
 //! Assigns (IEEE 1364-2005, "Continuous assignments").
 
-ghost use Rattle.std.specs.Prelude.{[], ◌++◌, ◌<◌, length, IfOk, IsTrue, OnOk};
+ghost use Rattle.std.specs.Prelude.{[], ◌++◌, length, IfOk, IsTrue, OnOk};
 ghost use Rattle.lx_vtree.specs.Modules.{are_assigns_placed};
 ghost use Rattle.lx_emission.specs.Emission.{node_assign};
 ghost use Rattle.lx_emission.specs.Signals.{signal_assign};
@@ -9,12 +9,12 @@ ghost use Rattle.lx_nets.specs.Plans.{assigns_in, nodes_in};
 
 use crate::exprs::put_node;
 use lx_arena::Id;
-use lx_fhdl::{ExprId, SigId};
+use lx_fhdl::SigId;
 use lx_sheet::names::node_name;
 use lx_sheet::operands::put_operand;
 use lx_sheet::resets::put_reset;
-use lx_sheet::tables::{drive_of, has_net, net_name, number_at};
-use lx_sheet::{Drive, Sheet};
+use lx_sheet::tables::has_net;
+use lx_sheet::{Drive, NodeOf, Sheet, SignalOf};
 use lx_text::{List, NoMemory};
 use lx_vtree::{Assign, Nodes};
 use std::alloc::Global;
@@ -24,19 +24,17 @@ use std::marker::PhantomData;
 fn put_node_assign(
     alloc: Global,
     nodes: &mut Nodes,
-    sheet: &Sheet,
     assigns: &mut List<Assign>,
-    id: ExprId,
+    node: NodeOf,
 ) -> Result<(), NoMemory>
     requires placed { IsTrue (are_assigns_placed (length nodes.old.exprs) assigns.old) }
-    requires place { id.place < length sheet.now.design.exprs }
-    ensures { OnOk result (PutAssigns nodes.old nodes.new assigns.old assigns.new (node_assign sheet.now.design sheet.now.names id.place)) }
+    ensures { OnOk result (PutAssigns nodes.old nodes.new assigns.old assigns.new (node_assign node.entry.sheet.now.design node.entry.sheet.now.names node.entry.id.place)) }
 {
-    if !has_net(sheet.design.exprs.get(id)) {
+    if !has_net(node.expr()) {
         return Ok(());
     }
-    let name = node_name(alloc, number_at(sheet, id))?;
-    let value = put_node(alloc, nodes, sheet, id)?;
+    let name = node_name(alloc, node.number())?;
+    let value = put_node(alloc, nodes, node)?;
     assigns.push(Assign { name, value })
 }
 
@@ -44,24 +42,22 @@ fn put_node_assign(
 fn put_signal_assign(
     alloc: Global,
     nodes: &mut Nodes,
-    sheet: &Sheet,
     assigns: &mut List<Assign>,
-    x: SigId,
+    x: SignalOf,
 ) -> Result<(), NoMemory>
     requires placed { IsTrue (are_assigns_placed (length nodes.old.exprs) assigns.old) }
-    requires signal { x.0 < length sheet.now.design.signals }
-    ensures { OnOk result (PutAssigns nodes.old nodes.new assigns.old assigns.new (signal_assign sheet.now.design sheet.now.names x.0)) }
+    ensures { OnOk result (PutAssigns nodes.old nodes.new assigns.old assigns.new (signal_assign x.entry.sheet.now.design x.entry.sheet.now.names x.entry.id.0)) }
 {
-    match drive_of(sheet, x) {
+    match x.drive() {
         Drive::Input | Drive::CombBlock(_) | Drive::Sync { .. } => Ok(()),
         Drive::Undriven => {
-            let name = net_name(alloc, sheet, x)?;
-            let value = put_reset(nodes, sheet, x)?;
+            let name = x.name(alloc)?;
+            let value = put_reset(nodes, x)?;
             assigns.push(Assign { name, value })
         }
         Drive::CombAssign(of) => {
-            let name = net_name(alloc, sheet, x)?;
-            let value = put_operand(alloc, nodes, sheet, *of)?;
+            let name = x.name(alloc)?;
+            let value = put_operand(alloc, nodes, x.sheet, *of)?;
             assigns.push(Assign { name, value })
         }
     }
@@ -82,7 +78,7 @@ fn put_nodes(
             place,
             of: PhantomData,
         };
-        put_node_assign(alloc, nodes, sheet, assigns, id)?;
+        put_node_assign(alloc, nodes, assigns, NodeOf::new(&*sheet, id))?;
     }
     Ok(())
 }
@@ -98,7 +94,7 @@ fn put_signals(
     ensures { OnOk result (PutAssigns nodes.old nodes.new assigns.old assigns.new (assigns_in sheet.now)) }
 {
     for x in 0..sheet.design.signals.len() {
-        put_signal_assign(alloc, nodes, sheet, assigns, SigId(x))?;
+        put_signal_assign(alloc, nodes, assigns, SignalOf::new(&*sheet, SigId(x)))?;
     }
     Ok(())
 }

@@ -1,6 +1,6 @@
 //! Declarations of nets (IEEE 1364-2005, "Net and variable declarations").
 
-ghost use Rattle.std.specs.Prelude.{◌≡◌, ◌++◌, ◌<◌, length, map, IfOk, OnOk};
+ghost use Rattle.std.specs.Prelude.{◌≡◌, ◌++◌, map, IfOk, OnOk};
 ghost use Rattle.lx_vtree.specs.Modules.{decl_of};
 ghost use Rattle.lx_emission.specs.Emission.{decls_of, inner_decl, node_decl};
 ghost use Rattle.lx_nets.specs.Plans.{inner_decls_in, node_decls_in};
@@ -8,9 +8,9 @@ ghost use Rattle.lx_nets.specs.Plans.{inner_decls_in, node_decls_in};
 use crate::memories::put_decls;
 use crate::nets::{node_wire, signal_net};
 use lx_arena::Id;
-use lx_fhdl::{ExprId, SigId};
-use lx_sheet::Sheet;
-use lx_sheet::tables::{has_net, is_port};
+use lx_fhdl::SigId;
+use lx_sheet::tables::has_net;
+use lx_sheet::{NodeOf, Sheet, SignalOf};
 use lx_text::{List, NoMemory};
 use lx_vtree::Decl;
 use std::alloc::Global;
@@ -18,37 +18,25 @@ use std::marker::PhantomData;
 
 // Adds the net of a signal that is no port.
 #[tactic(auto, unfolding(lx_emission::specs::Emission::inner_decl))]
-fn put_signal(
-    alloc: Global,
-    sheet: &Sheet,
-    decls: &mut List<Decl>,
-    x: SigId,
-) -> Result<(), NoMemory>
-    requires { x.0 < length sheet.now.design.signals }
-    ensures { OnOk result (map decl_of decls.new ≡ map decl_of decls.old ++ inner_decl sheet.now.design sheet.now.names x.0) }
+fn put_signal(alloc: Global, decls: &mut List<Decl>, x: SignalOf) -> Result<(), NoMemory>
+    ensures { OnOk result (map decl_of decls.new ≡ map decl_of decls.old ++ inner_decl x.entry.sheet.now.design x.entry.sheet.now.names x.entry.id.0) }
 {
-    if is_port(sheet, x) {
+    if x.is_port() {
         return Ok(());
     }
-    let net = signal_net(alloc, sheet, x)?;
+    let net = signal_net(alloc, x)?;
     decls.push(Decl::Net(net))
 }
 
 // Adds the net of an operator or slice.
 #[tactic(auto, unfolding(lx_emission::specs::Emission::node_decl))]
-fn put_node(
-    alloc: Global,
-    sheet: &Sheet,
-    decls: &mut List<Decl>,
-    id: ExprId,
-) -> Result<(), NoMemory>
-    requires { id.place < length sheet.now.design.exprs }
-    ensures { OnOk result (map decl_of decls.new ≡ map decl_of decls.old ++ node_decl sheet.now.design sheet.now.names id.place) }
+fn put_node(alloc: Global, decls: &mut List<Decl>, node: NodeOf) -> Result<(), NoMemory>
+    ensures { OnOk result (map decl_of decls.new ≡ map decl_of decls.old ++ node_decl node.entry.sheet.now.design node.entry.sheet.now.names node.entry.id.place) }
 {
-    if !has_net(sheet.design.exprs.get(id)) {
+    if !has_net(node.expr()) {
         return Ok(());
     }
-    let net = node_wire(alloc, sheet, id)?;
+    let net = node_wire(alloc, node)?;
     decls.push(Decl::Net(net))
 }
 
@@ -58,7 +46,7 @@ fn put_signals(alloc: Global, sheet: &Sheet, decls: &mut List<Decl>) -> Result<(
     ensures { OnOk result (map decl_of decls.new ≡ map decl_of decls.old ++ inner_decls_in sheet.now) }
 {
     for x in 0..sheet.design.signals.len() {
-        put_signal(alloc, sheet, decls, SigId(x))?;
+        put_signal(alloc, decls, SignalOf::new(&*sheet, SigId(x)))?;
     }
     Ok(())
 }
@@ -73,7 +61,7 @@ fn put_nodes(alloc: Global, sheet: &Sheet, decls: &mut List<Decl>) -> Result<(),
             place,
             of: PhantomData,
         };
-        put_node(alloc, sheet, decls, id)?;
+        put_node(alloc, decls, NodeOf::new(&*sheet, id))?;
     }
     Ok(())
 }

@@ -7,18 +7,17 @@ ghost use Rattle.lx_vtext.specs.Tree as tree;
 ghost use Rattle.lx_vtree.specs.Growth.{PutExpr};
 ghost use Rattle.lx_vtree.specs.NodeLists.{expr_tree};
 ghost use Rattle.lx_fhdl.specs.Below.{all_below};
-ghost use Rattle.lx_fhdl.specs.declared.exprs.Expr.{Expr};
 ghost use Rattle.lx_emission.specs.Emission.{is_net_node};
-ghost use Rattle.lx_emission.specs.Nodes.{node_shape, wide_if, unary_text, binary_text, choice_text, parts_onto, cat_text, slice_text};
+ghost use Rattle.lx_emission.specs.Nodes.{wide_if, parts_onto, cat_text, slice_text};
 ghost use Rattle.lx_sheet.specs.Operands.{tree_of};
-ghost use Rattle.lx_sheet.specs.Plans.{memory_in, operand_in};
+ghost use Rattle.lx_sheet.specs.Plans.{operand_in};
 ghost use Rattle.lx_nets.specs.Plans.{node_in};
-ghost use Rattle.lx_nets.specs.Texts.{PutParts, text_of};
+ghost use Rattle.lx_nets.specs.Texts.{PutParts, binary_in, choice_in, unary_in};
 
 use lx_fhdl::{Expr, ExprId};
-use lx_sheet::Sheet;
-use lx_sheet::operands::{Operand, operand_of, put_literal, put_net, put_operand};
-use lx_sheet::tables::{memory_name, shape_at};
+use lx_num::Shape;
+use lx_sheet::operands::{Operand, Reading, put_literal, put_net, put_operand, put_text, read};
+use lx_sheet::{MemoryOf, NodeOf, Sheet};
 use lx_tables::{Mix, Op, OpRow, OpText, op_row};
 use lx_text::{List, NoMemory, Word};
 use lx_vtext::{BinOp, UnOp};
@@ -38,6 +37,14 @@ fn put_wide(alloc: Global, nodes: &mut Nodes, widen: bool, of: VExprId) -> Resul
     } else {
         Ok(of)
     }
+}
+
+// An operand, widened where it is to be.
+fn put_side(alloc: Global, nodes: &mut Nodes, widen: bool, of: Operand) -> Result<VExprId, NoMemory>
+    ensures { IfOk result (λ i. PutExpr nodes.old nodes.new i.place (wide_if widen (tree_of of))) }
+{
+    let of = put_text(nodes, of)?;
+    put_wide(alloc, nodes, widen, of)
 }
 
 // The zero bit above an operand.
@@ -97,12 +104,19 @@ fn mix(left: bool, right: bool) -> Mix
     }
 }
 
-// An operator of one operand, sized by its row.
-fn put_unary(alloc: Global, nodes: &mut Nodes, row: OpRow, of: VExprId) -> Result<VExprId, NoMemory>
-    requires { of.place < length nodes.old.exprs }
-    ensures { IfOk result (λ i. PutExpr nodes.old nodes.new i.place (unary_text row (expr_tree nodes.old of.place))) }
+// How an operator of operands with these shapes is written.
+fn row_for(op: Op, left: Shape, right: Shape) -> OpRow
+    ensures { result ≡ row_of op (mix_of left.signed right.signed) }
 {
-    let of = put_wide(alloc, nodes, row.widen_left, of)?;
+    op_row(op, mix(left.signed, right.signed))
+}
+
+// An operator of one operand, sized by its row.
+fn put_unary(alloc: Global, nodes: &mut Nodes, op: Op, of: Reading) -> Result<VExprId, NoMemory>
+    ensures { IfOk result (λ i. PutExpr nodes.old nodes.new i.place (unary_in op of)) }
+{
+    let row = row_for(op, of.shape, of.shape);
+    let of = put_side(alloc, nodes, row.widen_left, of.operand)?;
     let op = unary_op(row.text);
     nodes.add_expr(VExpr::Unary { op, of })
 }
@@ -111,41 +125,51 @@ fn put_unary(alloc: Global, nodes: &mut Nodes, row: OpRow, of: VExprId) -> Resul
 fn put_binary(
     alloc: Global,
     nodes: &mut Nodes,
-    row: OpRow,
-    left: VExprId,
-    right: VExprId,
+    op: Op,
+    left: Reading,
+    right: Reading,
 ) -> Result<VExprId, NoMemory>
-    requires left { left.place < length nodes.old.exprs }
-    requires right { right.place < length nodes.old.exprs }
-    ensures { IfOk result (λ i. PutExpr nodes.old nodes.new i.place (binary_text row (expr_tree nodes.old left.place) (expr_tree nodes.old right.place))) }
+    ensures { IfOk result (λ i. PutExpr nodes.old nodes.new i.place (binary_in op left right)) }
 {
-    let wide_left = put_wide(alloc, nodes, row.widen_left, left)?;
-    let wide_right = put_wide(alloc, nodes, row.widen_right, right)?;
-    let node = VExpr::Binary {
-        left: wide_left,
-        op: binary_op(row.text),
-        right: wide_right,
-    };
-    nodes.add_expr(node)
+    let row = row_for(op, left.shape, right.shape);
+    let left = put_side(alloc, nodes, row.widen_left, left.operand)?;
+    let right = put_side(alloc, nodes, row.widen_right, right.operand)?;
+    let op = binary_op(row.text);
+    nodes.add_expr(VExpr::Binary { left, op, right })
 }
 
 // A choice between two operands, sized by its row.
 fn put_choice(
     alloc: Global,
     nodes: &mut Nodes,
-    row: OpRow,
-    cond: VExprId,
-    yes: VExprId,
-    no: VExprId,
+    cond: Operand,
+    yes: Reading,
+    no: Reading,
 ) -> Result<VExprId, NoMemory>
-    requires cond { cond.place < length nodes.old.exprs }
-    requires yes { yes.place < length nodes.old.exprs }
-    requires no { no.place < length nodes.old.exprs }
-    ensures { IfOk result (λ i. PutExpr nodes.old nodes.new i.place (choice_text row (expr_tree nodes.old cond.place) (expr_tree nodes.old yes.place) (expr_tree nodes.old no.place))) }
+    ensures { IfOk result (λ i. PutExpr nodes.old nodes.new i.place (choice_in cond yes no)) }
 {
-    let so = put_wide(alloc, nodes, row.widen_left, yes)?;
-    let other = put_wide(alloc, nodes, row.widen_right, no)?;
+    let row = row_for(Op::Mux, yes.shape, no.shape);
+    let cond = put_text(nodes, cond)?;
+    let so = put_side(alloc, nodes, row.widen_left, yes.operand)?;
+    let other = put_side(alloc, nodes, row.widen_right, no.operand)?;
     nodes.add_expr(VExpr::Conditional { cond, so, other })
+}
+
+// Copies of an operand side by side.
+fn put_copies(nodes: &mut Nodes, of: Operand, count: u32) -> Result<VExprId, NoMemory>
+    ensures { IfOk result (λ i. PutExpr nodes.old nodes.new i.place (tree.Replication count (tree_of of))) }
+{
+    let count = count as u64;
+    let of = put_text(nodes, of)?;
+    nodes.add_expr(VExpr::Replication { count, of })
+}
+
+// A word of a memory.
+fn put_word(nodes: &mut Nodes, name: Word, at: Operand) -> Result<VExprId, NoMemory>
+    ensures { IfOk result (λ i. PutExpr nodes.old nodes.new i.place (tree.Word name (tree_of at))) }
+{
+    let index = put_text(nodes, at)?;
+    nodes.add_expr(VExpr::Word { name, index })
 }
 
 // Adds the texts of parts, the last one first.
@@ -220,161 +244,57 @@ fn field_of(literal: Literal, low: u32, high: u32) -> Literal
     }
 }
 
-// Bits `low` to `high - 1` of an operand of so many bits.
-fn put_slice(
-    nodes: &mut Nodes,
-    of: Operand,
-    bits: u8,
-    low: u32,
-    high: u32,
-) -> Result<VExprId, NoMemory>
+// Bits `low` to `high - 1` of an operand.
+fn put_slice(nodes: &mut Nodes, of: Reading, low: u32, high: u32) -> Result<VExprId, NoMemory>
     requires some { low < high }
     requires most { high < 128 }
-    ensures { IfOk result (λ i. PutExpr nodes.old nodes.new i.place (slice_text (tree_of of) bits low high)) }
+    ensures { IfOk result (λ i. PutExpr nodes.old nodes.new i.place (slice_text (tree_of of.operand) of.shape.bits low high)) }
 {
-    match of {
+    let bits = of.shape.bits;
+    let operand = of.operand;
+    match operand {
         Operand::Literal(literal) => put_literal(nodes, field_of(literal, low, high)),
         Operand::Net(name) => put_select(nodes, name, bits, low, high),
     }
 }
 
-// How an operator of these two operands is written.
-fn row_at(sheet: &Sheet, op: Op, left: ExprId, right: ExprId) -> OpRow
-    requires left { left.place < length sheet.now.design.exprs }
-    requires right { right.place < length sheet.now.design.exprs }
-    ensures { result ≡ row_of op (mix_of (node_shape sheet.now.design left.place).signed (node_shape sheet.now.design right.place).signed) }
-{
-    let mix = mix(shape_at(sheet, left).signed, shape_at(sheet, right).signed);
-    op_row(op, mix)
-}
-
-// An operator of one operand.
-fn put_unary_of(
-    alloc: Global,
-    nodes: &mut Nodes,
-    sheet: &Sheet,
-    op: Op,
-    of: ExprId,
-) -> Result<VExprId, NoMemory>
-    requires { of.place < length sheet.now.design.exprs }
-    ensures { IfOk result (λ i. PutExpr nodes.old nodes.new i.place (text_of sheet.now (Expr.Unary op of))) }
-{
-    let row = row_at(sheet, op, of, of);
-    let of = put_operand(alloc, nodes, sheet, of)?;
-    put_unary(alloc, nodes, row, of)
-}
-
-// An operator of two operands.
-fn put_binary_of(
-    alloc: Global,
-    nodes: &mut Nodes,
-    sheet: &Sheet,
-    op: Op,
-    left: ExprId,
-    right: ExprId,
-) -> Result<VExprId, NoMemory>
-    requires left { left.place < length sheet.now.design.exprs }
-    requires right { right.place < length sheet.now.design.exprs }
-    ensures { IfOk result (λ i. PutExpr nodes.old nodes.new i.place (text_of sheet.now (Expr.Binary op left right))) }
-{
-    let row = row_at(sheet, op, left, right);
-    let a = put_operand(alloc, nodes, sheet, left)?;
-    let b = put_operand(alloc, nodes, sheet, right)?;
-    put_binary(alloc, nodes, row, a, b)
-}
-
-// A choice between two operands.
-fn put_choice_of(
-    alloc: Global,
-    nodes: &mut Nodes,
-    sheet: &Sheet,
-    cond: ExprId,
-    yes: ExprId,
-    no: ExprId,
-) -> Result<VExprId, NoMemory>
-    requires cond { cond.place < length sheet.now.design.exprs }
-    requires yes { yes.place < length sheet.now.design.exprs }
-    requires no { no.place < length sheet.now.design.exprs }
-    ensures { IfOk result (λ i. PutExpr nodes.old nodes.new i.place (text_of sheet.now (Expr.Mux cond yes no))) }
-{
-    let row = row_at(sheet, Op::Mux, yes, no);
-    let c = put_operand(alloc, nodes, sheet, cond)?;
-    let a = put_operand(alloc, nodes, sheet, yes)?;
-    let b = put_operand(alloc, nodes, sheet, no)?;
-    put_choice(alloc, nodes, row, c, a, b)
-}
-
-// Copies of an operand side by side.
-fn put_copies_of(
-    alloc: Global,
-    nodes: &mut Nodes,
-    sheet: &Sheet,
-    of: ExprId,
-    count: u32,
-) -> Result<VExprId, NoMemory>
-    requires { of.place < length sheet.now.design.exprs }
-    ensures { IfOk result (λ i. PutExpr nodes.old nodes.new i.place (text_of sheet.now (Expr.Replicate of count))) }
-{
-    let count = count as u64;
-    let of = put_operand(alloc, nodes, sheet, of)?;
-    nodes.add_expr(VExpr::Replication { count, of })
-}
-
-// Bits `low` to `high - 1` of an operand.
-fn put_slice_of(
-    alloc: Global,
-    nodes: &mut Nodes,
-    sheet: &Sheet,
-    of: ExprId,
-    low: u32,
-    high: u32,
-) -> Result<VExprId, NoMemory>
-    requires place { of.place < length sheet.now.design.exprs }
-    requires some { low < high }
-    requires most { high < 128 }
-    ensures { IfOk result (λ i. PutExpr nodes.old nodes.new i.place (text_of sheet.now (Expr.Slice of low high))) }
-{
-    let bits = shape_at(sheet, of).bits;
-    let of = operand_of(alloc, sheet, of)?;
-    put_slice(nodes, of, bits, low, high)
-}
-
-// A word of a memory.
-fn put_word_of(
-    alloc: Global,
-    nodes: &mut Nodes,
-    sheet: &Sheet,
-    memory: usize,
-    at: ExprId,
-) -> Result<VExprId, NoMemory>
-    requires memory { memory < length sheet.now.design.memories }
-    requires place { at.place < length sheet.now.design.exprs }
-    ensures { IfOk result (λ i. PutExpr nodes.old nodes.new i.place (tree.Word (memory_in sheet.now memory) (operand_in sheet.now at.place))) }
-{
-    let name = memory_name(alloc, sheet, memory)?;
-    let index = put_operand(alloc, nodes, sheet, at)?;
-    nodes.add_expr(VExpr::Word { name, index })
-}
-
 /// Adds the text of a node with a net, which drives that net: its operands sized by the operator's row.
-pub fn put_node(
-    alloc: Global,
-    nodes: &mut Nodes,
-    sheet: &Sheet,
-    id: ExprId,
-) -> Result<VExprId, NoMemory>
-    requires place { id.place < length sheet.now.design.exprs }
-    requires operator { is_net_node (slice_get sheet.now.design.exprs id.place) ≡ true }
-    ensures { IfOk result (λ i. PutExpr nodes.old nodes.new i.place (node_in sheet.now id.place)) }
+pub fn put_node(alloc: Global, nodes: &mut Nodes, node: NodeOf) -> Result<VExprId, NoMemory>
+    requires operator { is_net_node (slice_get node.sheet.now.design.exprs node.id.place) ≡ true }
+    ensures { IfOk result (λ i. PutExpr nodes.old nodes.new i.place (node_in node.entry.sheet.now node.entry.id.place)) }
 {
-    match sheet.design.exprs.get(id) {
-        Expr::Unary { op, of } => put_unary_of(alloc, nodes, sheet, *op, *of),
-        Expr::Binary { op, left, right } => put_binary_of(alloc, nodes, sheet, *op, *left, *right),
-        Expr::Mux { cond, yes, no } => put_choice_of(alloc, nodes, sheet, *cond, *yes, *no),
+    let sheet = node.sheet;
+    match sheet.design.exprs.get(node.id) {
+        Expr::Unary { op, of } => {
+            let of = read(alloc, sheet, *of)?;
+            put_unary(alloc, nodes, *op, of)
+        }
+        Expr::Binary { op, left, right } => {
+            let left = read(alloc, sheet, *left)?;
+            let right = read(alloc, sheet, *right)?;
+            put_binary(alloc, nodes, *op, left, right)
+        }
+        Expr::Mux { cond, yes, no } => {
+            let cond = read(alloc, sheet, *cond)?;
+            let yes = read(alloc, sheet, *yes)?;
+            let no = read(alloc, sheet, *no)?;
+            put_choice(alloc, nodes, cond.operand, yes, no)
+        }
         Expr::Cat(parts) => put_cat(alloc, nodes, sheet, parts.as_slice()),
-        Expr::Replicate { of, count } => put_copies_of(alloc, nodes, sheet, *of, *count),
-        Expr::Slice { of, low, high } => put_slice_of(alloc, nodes, sheet, *of, *low, *high),
-        Expr::Fetch { memory, at, .. } => put_word_of(alloc, nodes, sheet, *memory, *at),
+        Expr::Replicate { of, count } => {
+            let of = read(alloc, sheet, *of)?;
+            put_copies(nodes, of.operand, *count)
+        }
+        Expr::Slice { of, low, high } => {
+            let of = read(alloc, sheet, *of)?;
+            put_slice(nodes, of, *low, *high)
+        }
+        Expr::Fetch { memory, at, .. } => {
+            let memory = MemoryOf::new(&*sheet, *memory);
+            let name = memory.name(alloc)?;
+            let at = read(alloc, sheet, *at)?;
+            put_word(nodes, name, at.operand)
+        }
         Expr::Const { .. } | Expr::Sig(_) | Expr::Pick { .. } => unreachable!(),
     }
 }

@@ -1,25 +1,23 @@
 //! Memories: their declarations, and their first words (IEEE 1364-2005, "Memories" and "Initial construct").
 
-ghost use Rattle.std.specs.Prelude.{◌≡◌, [], ◌++◌, ◌∷◌, ◌<◌, length, map, slice_index_or, IfOk, OnOk};
+ghost use Rattle.std.specs.Prelude.{◌≡◌, [], ◌++◌, ◌∷◌, ◌<◌, map, slice_index_or, IfOk, OnOk};
 ghost use Rattle.lx_vtree.specs.Modules.{decl_of, literal_of, sets_of};
 ghost use Rattle.lx_fhdl.specs.Designs.{memory_of};
 ghost use Rattle.lx_emission.specs.Emission.{memory_decls};
 ghost use Rattle.lx_nets.specs.Memories.{first_words_in, inits_in, memory_decl_in, word_literal};
 
 use lx_fhdl::Memory;
-use lx_sheet::Sheet;
-use lx_sheet::tables::memory_name;
+use lx_sheet::{MemoryOf, Sheet};
 use lx_text::{List, NoMemory};
 use lx_vtree::{Decl, Initial, Literal, Memory as VMemory, WordInit};
 use std::alloc::Global;
 
 // Adds the declaration of a memory.
-fn put_decl(alloc: Global, sheet: &Sheet, decls: &mut List<Decl>, k: usize) -> Result<(), NoMemory>
-    requires { k < length sheet.now.design.memories }
-    ensures { OnOk result (map decl_of decls.new ≡ map decl_of decls.old ++ memory_decl_in sheet.now k ∷ []) }
+fn put_decl(alloc: Global, decls: &mut List<Decl>, x: MemoryOf) -> Result<(), NoMemory>
+    ensures { OnOk result (map decl_of decls.new ≡ map decl_of decls.old ++ memory_decl_in x.entry.sheet.now x.entry.place ∷ []) }
 {
-    let memory = sheet.design.memories.at(k);
-    let name = memory_name(alloc, sheet, k)?;
+    let memory = x.memory();
+    let name = x.name(alloc)?;
     decls.push(Decl::Memory(VMemory {
         bits: memory.width as u64,
         name,
@@ -32,7 +30,7 @@ pub fn put_decls(alloc: Global, sheet: &Sheet, decls: &mut List<Decl>) -> Result
     ensures { OnOk result (map decl_of decls.new ≡ map decl_of decls.old ++ memory_decls sheet.now.design sheet.now.names) }
 {
     for k in 0..sheet.design.memories.len() {
-        put_decl(alloc, sheet, decls, k)?;
+        put_decl(alloc, decls, MemoryOf::new(&*sheet, k))?;
     }
     Ok(())
 }
@@ -58,14 +56,13 @@ fn first_word(memory: &Memory, place: usize) -> Literal
 }
 
 // The initial block of a memory: a line for every word.
-fn first_words(alloc: Global, sheet: &Sheet, k: usize) -> Result<Initial, NoMemory>
-    requires { k < length sheet.now.design.memories }
-    ensures { IfOk result (λ i. sets_of i ≡ first_words_in sheet.now k) }
+fn first_words(alloc: Global, x: MemoryOf) -> Result<Initial, NoMemory>
+    ensures { IfOk result (λ i. sets_of i ≡ first_words_in x.entry.sheet.now x.entry.place) }
 {
-    let memory = sheet.design.memories.at(k);
+    let memory = x.memory();
     let mut words = List::new(alloc);
     for place in 0..memory.depth as usize {
-        let name = memory_name(alloc, sheet, k)?;
+        let name = x.name(alloc)?;
         words.push(WordInit {
             name,
             index: place as u64,
@@ -81,7 +78,7 @@ pub fn inits(alloc: Global, sheet: &Sheet) -> Result<List<Initial>, NoMemory>
 {
     let mut inits = List::new(alloc);
     for k in 0..sheet.design.memories.len() {
-        inits.push(first_words(alloc, sheet, k)?)?;
+        inits.push(first_words(alloc, MemoryOf::new(&*sheet, k))?)?;
     }
     Ok(inits)
 }

@@ -8,11 +8,10 @@ ghost use Rattle.lx_sheet.specs.Drives.{drive_of};
 ghost use Rattle.lx_nets.specs.Plans.{domain_ports_in, ios_in};
 
 use crate::nets::{signal_net, wire};
-use lx_fhdl::{Domain, SigId};
+use lx_fhdl::Domain;
 use lx_num::Shape;
 use lx_sheet::names::clock_name;
-use lx_sheet::tables::drive_of;
-use lx_sheet::{Drive, Sheet};
+use lx_sheet::{Drive, Sheet, SignalOf};
 use lx_text::{List, NoMemory};
 use lx_vtree::Port;
 use std::alloc::Global;
@@ -28,13 +27,12 @@ fn is_input(drive: &Drive) -> bool
 }
 
 // The port of a signal: an input where nothing in the design drives it.
-fn signal_port(alloc: Global, sheet: &Sheet, x: SigId) -> Result<Port, NoMemory>
-    requires { x.0 < length sheet.now.design.signals }
-    ensures { IfOk result (λ port. port_of port ≡ signal_port sheet.now.design sheet.now.names x.0) }
+fn signal_port(alloc: Global, x: SignalOf) -> Result<Port, NoMemory>
+    ensures { IfOk result (λ port. port_of port ≡ signal_port x.entry.sheet.now.design x.entry.sheet.now.names x.entry.id.0) }
 {
-    let net = signal_net(alloc, sheet, x)?;
+    let net = signal_net(alloc, x)?;
     Ok(Port {
-        is_input: is_input(drive_of(sheet, x)),
+        is_input: is_input(x.drive()),
         net,
     })
 }
@@ -66,7 +64,7 @@ fn put_domain(
 {
     ports.push(clock_port(alloc, domain)?)?;
     if let Some(reset) = domain.reset {
-        ports.push(signal_port(alloc, sheet, reset)?)?;
+        ports.push(signal_port(alloc, SignalOf::new(&*sheet, reset))?)?;
     }
     Ok(())
 }
@@ -86,7 +84,7 @@ fn put_ios(alloc: Global, sheet: &Sheet, ports: &mut List<Port>) -> Result<(), N
     ensures { OnOk result (map port_of ports.new ≡ map port_of ports.old ++ ios_in sheet.now) }
 {
     for x in sheet.design.ios.as_slice() {
-        let port = signal_port(alloc, sheet, *x)?;
+        let port = signal_port(alloc, SignalOf::new(&*sheet, *x))?;
         ports.push(port)?;
     }
     Ok(())

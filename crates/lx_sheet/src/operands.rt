@@ -4,13 +4,15 @@ ghost use Rattle.std.specs.Prelude.{◌≡◌, ◌<◌, ◌^◌, length, IfOk};
 ghost use Rattle.lx_num.specs.Ints.{modulo};
 ghost use Rattle.lx_vtext.specs.Tree as tree;
 ghost use Rattle.lx_vtree.specs.Growth.{PutExpr};
-ghost use Rattle.lx_sheet.specs.Operands.{tree_of};
+ghost use Rattle.lx_sheet.specs.Operands.{IsReading, tree_of};
 ghost use Rattle.lx_sheet.specs.Plans.{operand_in};
 
 use crate::names::node_name;
-use crate::tables::{Sheet, net_name, number_at};
+use crate::nodes::NodeOf;
+use crate::signals::SignalOf;
+use crate::tables::Sheet;
 use lx_fhdl::{Expr, ExprId};
-use lx_num::field;
+use lx_num::{Shape, field};
 use lx_text::{NoMemory, Word};
 use lx_vtree::{ExprId as VExprId, Literal, Nodes, VExpr};
 use std::alloc::Global;
@@ -20,6 +22,13 @@ use std::alloc::Global;
 pub enum Operand {
     Literal(Literal),
     Net(Word),
+}
+
+/// An operand with its shape.
+#[derive(Drop)]
+pub struct Reading {
+    pub operand: Operand,
+    pub shape: Shape,
 }
 
 /// The literal of a constant.
@@ -37,19 +46,33 @@ pub(crate) fn constant(value: i128, bits: u32, signed: bool) -> Literal
 }
 
 /// An expression where it is read.
-pub fn operand_of(alloc: Global, sheet: &Sheet, id: ExprId) -> Result<Operand, NoMemory>
-    requires { id.place < length sheet.now.design.exprs }
-    ensures { IfOk result (λ o. tree_of o ≡ operand_in sheet.now id.place) }
+pub fn operand_of(alloc: Global, node: NodeOf) -> Result<Operand, NoMemory>
+    ensures { IfOk result (λ o. tree_of o ≡ operand_in node.entry.sheet.now node.entry.id.place) }
 {
-    match sheet.design.exprs.get(id) {
+    let sheet = node.sheet;
+    match sheet.design.exprs.get(node.id) {
         Expr::Const {
             value,
             bits,
             signed,
         } => Ok(Operand::Literal(constant(*value, *bits, *signed))),
-        Expr::Sig(x) => Ok(Operand::Net(net_name(alloc, sheet, *x)?)),
-        _ => Ok(Operand::Net(node_name(alloc, number_at(sheet, id))?)),
+        Expr::Sig(x) => {
+            let signal = SignalOf::new(&*sheet, *x);
+            Ok(Operand::Net(signal.name(alloc)?))
+        }
+        _ => Ok(Operand::Net(node_name(alloc, node.number())?)),
     }
+}
+
+/// An expression where it is read, with its shape.
+pub fn read(alloc: Global, sheet: &Sheet, id: ExprId) -> Result<Reading, NoMemory>
+    requires { id.place < length sheet.now.design.exprs }
+    ensures { IfOk result (λ r. IsReading sheet.now id.place r) }
+{
+    let node = NodeOf::new(&*sheet, id);
+    let operand = operand_of(alloc, node)?;
+    let shape = node.shape();
+    Ok(Reading { operand, shape })
 }
 
 /// Adds the name of a net.
@@ -66,6 +89,16 @@ pub fn put_literal(nodes: &mut Nodes, literal: Literal) -> Result<VExprId, NoMem
     nodes.add_expr(VExpr::Literal(literal))
 }
 
+/// Adds the text of an operand.
+pub fn put_text(nodes: &mut Nodes, operand: Operand) -> Result<VExprId, NoMemory>
+    ensures { IfOk result (λ i. PutExpr nodes.old nodes.new i.place (tree_of operand)) }
+{
+    match operand {
+        Operand::Literal(literal) => put_literal(nodes, literal),
+        Operand::Net(name) => put_net(nodes, name),
+    }
+}
+
 /// Adds the text of an expression where it is read.
 pub fn put_operand(
     alloc: Global,
@@ -76,8 +109,6 @@ pub fn put_operand(
     requires { id.place < length sheet.now.design.exprs }
     ensures { IfOk result (λ i. PutExpr nodes.old nodes.new i.place (operand_in sheet.now id.place)) }
 {
-    match operand_of(alloc, sheet, id)? {
-        Operand::Literal(literal) => put_literal(nodes, literal),
-        Operand::Net(name) => put_net(nodes, name),
-    }
+    let operand = operand_of(alloc, NodeOf::new(&*sheet, id))?;
+    put_text(nodes, operand)
 }

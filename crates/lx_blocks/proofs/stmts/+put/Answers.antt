@@ -11,15 +11,15 @@ use Rattle.lx_blocks.proofs.stmts.+put.Goals as goal
 pub put_block-returns : goal.put_block-returns
 put_block-returns t c = IfOk-weaker c.put_stmts.result _ _ (λ list p. block_put _ _ _ _ _ _ c.new-list.ensures p) c.put_stmts.ensures
 
-pub put_stmt-put_assign-requires-clause-target : goal.put_stmt-put_assign-requires-clause-target
-put_stmt-put_assign-requires-clause-target t c = rw (← c.sheet.view_is) (stmt_stands _ _ _ _ c.sheet.invariant.fit.keeps c.get.ensures.item c.in-Assign.is).0
-
-pub put_stmt-put_assign-requires-clause-value : goal.put_stmt-put_assign-requires-clause-value
-put_stmt-put_assign-requires-clause-value t c = rw (← c.sheet.view_is) (stmt_stands _ _ _ _ c.sheet.invariant.fit.keeps c.get.ensures.item c.in-Assign.is).1
-
-pub put_stmt-put_assign-requires-clause-plain : goal.put_stmt-put_assign-requires-clause-plain
-put_stmt-put_assign-requires-clause-plain t c =
-    rw (← c.sheet.view_is) (plain_assign _ _ _ _ _ c.sheet.invariant.fit.keeps (c.get.ensures.item ∙ ap Some c.in-Assign.is) (rw (← c.sheet.view_is) at c.requires.plain))
+pub put_stmt-put_assign-requires : goal.put_stmt-put_assign-requires
+put_stmt-put_assign-requires t c =
+    let there = stmt_stands _ _ _ _ c.sheet.invariant.fit.keeps c.get.ensures.item c.in-Assign.is in
+    rw (← c.sheet.view_is)
+    (record {
+      target = there.0;
+      plain = plain_assign _ _ _ _ _ c.sheet.invariant.fit.keeps (c.get.ensures.item ∙ ap Some c.in-Assign.is) (rw (← c.sheet.view_is) at c.requires.plain);
+      value = there.1;
+    })
 
 pub put_stmt-at-branch-requires : goal.put_stmt-at-branch-requires
 put_stmt-at-branch-requires t c =
@@ -31,8 +31,14 @@ put_stmt-put_when-requires t c =
     let parts = lone_if _ _ _ _ _ _ c.sheet.invariant.fit.keeps (rw (← c.sheet.view_is) at c.requires.plain) c.get.ensures.item c.get.ensures.lower c.in-If.is in
     let one = first_is _ _ _ parts.lone c.at-branch.ensures in
     let within = rw (← c.sheet.view_is) at c.requires.place in
-    rw (← c.sheet.view_is)
-    (omega arith, (omega (arith, within), (rw one parts.cond, (rw one parts.body, (rw c.as_slice-rest.ensures parts.below, (rw one parts.plain_body, rw c.as_slice-rest.ensures parts.plain_rest))))))
+    rw (← c.sheet.view_is) (
+      omega arith,
+      record {
+        under = rw one parts.cond;
+        then = record { within = omega (arith, within); below = rw one parts.body; plain = rw one parts.plain_body };
+        otherwise = record { within = omega (arith, within); below = rw c.as_slice-rest.ensures parts.below; plain = rw c.as_slice-rest.ensures parts.plain_rest };
+      },
+    )
 
 pub put_stmt-unreachable-requires : goal.put_stmt-unreachable-requires
 put_stmt-unreachable-requires t c = no_case _ _ _ _ _ _ c.sheet.invariant.fit.keeps (c.get.ensures.item ∙ ap Some c.in-Case.is) (rw (← c.sheet.view_is) at c.requires.plain)
@@ -53,9 +59,9 @@ pub put_stmts-put_stmt-requires : goal.put_stmts-put_stmt-requires
 put_stmts-put_stmt-requires t c =
     let z : StmtId = record { place = 0; of = record {} } in
     let h : c.loop-id.id-index < length c.args.ids.now = omega arith in
-    let l = there_at c.args.bound c.args.ids.now c.loop-id.id-index z c.requires.below h in
-    let p = plain_at c.args.sheet.now.design c.args.ids.now c.loop-id.id-index z c.requires.plain h in
-    (omega (arith, l), (omega (arith, l), p))
+    let l = there_at c.args.bound c.args.ids.now c.loop-id.id-index z c.requires.body.below h in
+    let p = plain_at c.args.sheet.now.design c.args.ids.now c.loop-id.id-index z c.requires.body.plain h in
+    (omega (arith, l), (omega (arith, l, c.requires.body.within), p))
 
 pub put_stmts-loop-id-preserved : goal.put_stmts-loop-id-preserved
 put_stmts-loop-id-preserved t c =
@@ -70,3 +76,12 @@ put_when-add_stmt-requires-clause-below t c = parts_below _ _ _ _ _ _ _ _ c.in_o
 pub put_when-returns : goal.put_when-returns
 put_when-returns t c =
     IfOk-weaker c.add_stmt.result _ _ (λ i p. when_put _ _ _ _ _ _ _ _ _ _ _ _ (rw c.as_slice.ensures at c.in_ok-so.ensures) c.in_ok-other.ensures c.in_ok-cond.ensures p) c.add_stmt.ensures.ok
+
+pub put_when-put_block-requires : goal.put_when-put_block-requires
+put_when-put_block-requires t c = (omega arith, rw c.as_slice.ensures c.requires.then)
+
+pub put_when-put_else-requires : goal.put_when-put_else-requires
+put_when-put_else-requires t c = (omega arith, c.requires.otherwise)
+
+pub put_when-put_operand-requires : goal.put_when-put_operand-requires
+put_when-put_operand-requires t c = c.requires.under

@@ -10,5 +10,5 @@ add_stmt-requires-clause-below c = so_below _ _ _ c.in_ok-so.ensures.within c.in
 pub returns : goal.returns
 returns c =
     IfOk-weaker c.add_stmt.result _ _
-    (λ i p. bounded_put _ _ _ _ _ _ _ _ c.args.sheet.now c.args.write _ _ _ c.new-empty.ensures c.in_ok-so.ensures c.in_ok-adr.ensures (ap (λ a. a.bits) c.shape_of_signal-bits.ensures) c.in_ok-cond.ensures p)
+    (λ i p. bounded_put _ _ _ _ _ _ _ _ c.args.write _ _ _ c.new-empty.ensures c.in_ok-so.ensures c.in_ok-adr.ensures (ap (λ a. a.bits) c.shape-bits.ensures.is) c.in_ok-cond.ensures p)
     c.add_stmt.ensures.ok

@@ -7,5 +7,5 @@ use Rattle.lx_blocks.proofs.writes.put_word.Goals as goal
 pub returns : goal.returns
 returns c =
     IfOk-weaker c.add_stmt.result _ _
-    (λ i p. word_stmt _ _ _ _ _ _ _ _ _ _ (names_in c.args.sheet.now c.args.write) c.args.write.width (c.args.write.part * c.args.i) c.args.write.part _ c.in_ok-name.ensures c.in_ok-adr.ensures c.in_ok-data.ensures c.in_ok-index.ensures c.word_part-target.ensures c.in_ok-value.ensures p)
+    (λ i p. word_stmt _ _ _ _ _ _ _ _ _ _ (names_in c.args.write) c.args.write.width (c.args.write.part * c.args.i) c.args.write.part _ c.in_ok-name.ensures c.in_ok-adr.ensures c.in_ok-data.ensures c.in_ok-index.ensures c.word_part-target.ensures c.in_ok-value.ensures p)
     c.add_stmt.ensures.ok

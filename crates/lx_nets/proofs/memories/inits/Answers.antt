@@ -7,7 +7,7 @@ use Rattle.lx_nets.proofs.memories.inits.Goals as goal
 pub loop-k-preserved : goal.loop-k-preserved
 loop-k-preserved c =
     let within : c.loop-k.k < length c.args.sheet.now.design.memories = rw (← c.sheet.view_is) (omega arith) in
-    lines_next (first_words_in c.args.sheet.now) _ _ [] _ _ within c.loop-k.invariant (ap (map sets_of) c.in_ok-push.ensures.ok ∙ line_more sets_of _ _ _ c.in_ok-first_words.ensures)
+    lines_next (first_words_in c.args.sheet.now) _ _ [] _ _ within c.loop-k.invariant (ap (map sets_of) c.in_ok-push.ensures.ok ∙ line_more sets_of _ _ _ (rw (c.new.ensures.sheet, c.new.ensures.place) at c.in_ok-first_words.ensures))
 
 pub returns : goal.returns
 returns c =

@@ -6,6 +6,4 @@ use Rattle.lx_nets.proofs.Remembered.{decl_is}
 use Rattle.lx_nets.proofs.memories.put_decl.Goals as goal
 
 pub returns : goal.returns
-returns c =
-    rw (← c.sheet.view_is)
-    (on_ok_weaker c.push.result (λ e. ap (map decl_of) e ∙ line_more decl_of _ _ _ (decl_is _ _ _ _ c.at-memory.ensures (rw (← c.sheet.view_is) at c.in_ok-name.ensures))) c.push.ensures.ok)
+returns c = on_ok_weaker c.push.result (λ e. ap (map decl_of) e ∙ line_more decl_of _ _ _ (decl_is _ _ _ _ c.memory-memory.ensures.item c.in_ok-name.ensures)) c.push.ensures.ok

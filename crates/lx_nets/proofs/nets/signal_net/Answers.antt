@@ -2,4 +2,4 @@ use Rattle.lx_nets.proofs.Driven.{net_is}
 use Rattle.lx_nets.proofs.nets.signal_net.Goals as goal
 
 pub returns : goal.returns
-returns c = net_is _ _ _ _ _ _ _ c.shape_of_signal-shape.ensures c.in_ok-name.ensures c.init.ensures c.drive_of.ensures.drive
+returns c = net_is _ _ _ _ _ _ _ c.shape-shape.ensures.is c.in_ok-name.ensures c.init.ensures c.drive.ensures.drive

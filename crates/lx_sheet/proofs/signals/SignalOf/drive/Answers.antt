@@ -1,5 +1,5 @@
 use Rattle.lx_sheet.proofs.Driven.{drive_plain_at, drive_there_at}
-use Rattle.lx_sheet.proofs.tables.drive_of.Goals as goal
+use Rattle.lx_sheet.proofs.signals.SignalOf.drive.Goals as goal
 
 pub returns-clause-there : goal.returns-clause-there
 returns-clause-there c = rw (← c.sheet.view_is) (drive_there_at _ _ _ _ c.sheet.invariant.fit.keeps c.sheet.invariant.tables.drives c.at.ensures)
