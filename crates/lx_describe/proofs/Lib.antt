@@ -1,3 +1,4 @@
 pub mod Answering
 mod Bound
 mod Named
+mod Shapes

@@ -1,5 +1,5 @@
 -- The signals of a design with their paths.
-use Rattle.std.specs.Prelude.{ℕ, ◌+◌, List, [], ◌∷◌, slice_get}
+use Rattle.std.specs.Prelude.{◌≡◌, ℕ, ◌+◌, List, [], ◌∷◌, map, slice_get}
 use Rattle.lx_fhdl.specs.declared.design.Signal.{Signal}
 use Rattle.lx_state.specs.declared.machine.Machine.{Machine}
 use Rattle.lx_paths.specs.Paths.{owner_path}
@@ -17,3 +17,7 @@ named_signal m x s = with_path (owner_path m (slice_get m.owners x)) s
 unfoldable pub named_signals : Machine → ℕ → List Signal → List Signal
 named_signals m x [] = []
 named_signals m x (s ∷ ss) = named_signal m x s ∷ named_signals m (x + 1) ss
+
+-- each has the shape of the one at its place
+abbrev pub SameShapes : List Signal → List Signal → Type 0
+SameShapes old new = map (λ (s : Signal). s.shape) new ≡ map (λ (s : Signal). s.shape) old

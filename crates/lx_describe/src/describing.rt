@@ -6,7 +6,9 @@ ghost use Rattle.lx_describe.specs.Answers.{Answers, answer};
 ghost use Rattle.lx_describe.specs.Describing.{described, description_of, design_of, is_soc, is_system, module_line, object_line, outline_of, plain_top, some_ios, top_ios, top_of};
 ghost use Rattle.lx_describe.specs.Modules.{module_decls};
 ghost use Rattle.lx_describe.specs.Order.{in_order};
+ghost use Rattle.lx_describe.specs.Signals.{SameShapes};
 ghost use Rattle.lx_description.specs.Laws.{no_wishes};
+ghost use Rattle.lx_kept.specs.Given.{HasArenas};
 ghost use Rattle.lx_state.specs.Step.{Gives};
 
 use crate::modules::{module_decls, module_text};
@@ -154,8 +156,11 @@ fn outline_of(machine: &mut Machine, alloc: Global, value: Value) -> Result<Outl
     })
 }
 
+// These signals have the shapes of the draft's.
 fn design_of(shaped: Shaped, alloc: Global, outline: Outline, signals: List<Signal>) -> Design
-    ensures { result ≡ design_of shaped outline signals }
+    requires { SameShapes shaped.signals signals }
+    ensures is { result ≡ design_of shaped outline signals }
+    ensures arenas { HasArenas result }
 {
     let Outline {
         ios,
@@ -182,7 +187,8 @@ fn description_of(
     alloc: Global,
     outline: Outline,
 ) -> Result<Description, NoMemory>
-    ensures { IfOk result (λ description. description ≡ description_of machine.old outline) }
+    ensures is { IfOk result (λ description. description ≡ description_of machine.old outline) }
+    ensures arenas { IfOk result (λ description. HasArenas description.design) }
 {
     let top = module_text(machine, alloc, outline.top)?;
     let modules = all_decls(machine, alloc, outline.top)?;
@@ -202,10 +208,12 @@ fn description_of(
     })
 }
 
-/// The description of a machine whose top is this value. The machine is spent.
+/// The description of a machine whose top is this value; the arenas of its design keep what a design's arenas keep. The
+/// machine is spent.
 #[tactic(auto, using(crate::proofs::Answering::answer_stopped), unfolding(crate::specs::Describing::described))]
 pub fn described(machine: &mut Machine, alloc: Global, value: Value) -> Result<Description, Refusal>
-    ensures { Answers result (answer (described value machine.old)) }
+    ensures answers { Answers result (answer (described value machine.old)) }
+    ensures arenas { IfOk result (λ description. HasArenas description.design) }
 {
     let outline = outline_of(machine, alloc, value)?;
     let description = description_of(machine, alloc, outline)?;

@@ -1,4 +1,5 @@
 pub mod Instance
 pub mod Kept
 pub mod Plain
+pub mod PlainModule
 pub mod Rows

@@ -4,5 +4,6 @@ pub mod Instance
 pub mod Keeping
 pub mod Kept
 pub mod Laws
+pub mod PlainModule
 pub mod Rows
 pub mod Wires

@@ -3,6 +3,7 @@
 ghost use Rattle.lx_description.specs.Instance.{and_description, system};
 ghost use Rattle.lx_description.specs.Keeping.{KeepsDescription};
 ghost use Rattle.lx_description.specs.Laws.{PlainKeeps, TestHolds};
+ghost use Rattle.lx_description.specs.PlainModule.{ArePlain};
 ghost use Rattle.lx_description.specs.Rows.{AreRefused};
 
 /// A description that passes the test keeps what descriptions keep.
@@ -24,4 +25,9 @@ pub fn some_descriptions_keep()
 /// Descriptions that are nearly like them don't.
 pub fn others_are_refused()
     ensures { AreRefused }
+{}
+
+/// Which descriptions are a circuit and nothing beside, worked by hand.
+pub fn plain_modules_are_worked()
+    ensures { ArePlain }
 {}

@@ -6,6 +6,7 @@ pub mod description;
 pub mod fsms;
 pub mod laws;
 pub mod modules;
+mod plain_module;
 pub mod registers;
 pub mod slaves;
 
@@ -15,5 +16,6 @@ pub use fsms::{
     StateDecl,
 };
 pub use modules::{ConstDecl, ConstValue, ModuleDecl, Part};
+pub use plain_module::is_plain;
 pub use registers::{Field, ManagerDecl, RegDecl, RegKind, SourceDecl, SourceKind};
 pub use slaves::{SlaveDecl, SlaveKind};

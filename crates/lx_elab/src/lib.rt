@@ -2,5 +2,6 @@
 #![tactic(auto)]
 
 mod elaboration;
+pub mod worked;
 
 pub use elaboration::elaborate;

@@ -1,12 +1,16 @@
 -- What attributes are bound and added to.
-use Rattle.std.specs.Prelude.{ℕ, Bool, true, false, if◌then◌else◌, List, [], ◌∷◌, codes, Option, Some, None, is_some}
+use Rattle.std.specs.Prelude.{ℕ, Bool, true, false, ◌&&◌, if◌then◌else◌, List, [], ◌∷◌, codes, slice_get, Option, Some, None, is_some}
+use Rattle.std.specs.Str.{bytes_eq}
 use Rattle.lx_text.specs.declared.faults.Kind.TheVariants as kind
 use Rattle.lx_state.specs.declared.machine.Machine.{Machine}
 use Rattle.lx_state.specs.declared.values.Value.{Value}
 use Rattle.lx_state.specs.Lists.{all_leaves}
 use Rattle.lx_state.specs.Step.{Step, give, fault, ◌>>=◌}
+use Rattle.lx_state.specs.declared.machine.Module.{Module}
+use Rattle.lx_objects.specs.Ios.{ios_of}
 use Rattle.lx_objects.specs.Modules.{add_comb, add_module, add_modules, add_sync, bind_attribute, module_of, set_attribute}
 use Rattle.lx_objects.specs.Statements.{is_nothing}
+use Rattle.lx_paths.specs.Paths.{is_top}
 use Rattle.lx_ops.specs.Attributes.{attribute_of, fragment_named}
 use Rattle.lx_ops.specs.declared.attributes.Fragment.{Fragment}
 use Rattle.lx_ops.specs.declared.attributes.Fragment.TheVariants as fragment
@@ -47,13 +51,36 @@ setattr_holder line v name = do
 
 -- ---- binding
 
+-- whether an attribute is the `ios` of the top
+abbrev pub is_ports : Machine → List ℕ → Option Module → Bool
+is_ports m name None = false
+is_ports m name (Some x) = bytes_eq name (codes "ios") && is_top m x
+
+abbrev pub ports_fit : ℕ → Value → Step (Unit {0})
+ports_fit line v = ios_of line v >>= λ _. give tt
+
+-- the top binds `ios` to lists of signals alone
+abbrev pub attribute_fits : ℕ → ℕ → List ℕ → Value → Step (Unit {0})
+attribute_fits line at name v m = if is_ports m name (slice_get m.modules at) then ports_fit line v m else give tt m
+
+abbrev pub bind_own : ℕ → ℕ → List ℕ → Value → Step (Unit {0})
+bind_own line at name v = do
+  _ ← attribute_fits line at name v
+  set_attribute line at name v
+
+abbrev pub bind_added : ℕ → ℕ → List ℕ → Value → ℕ → Step (Unit {0})
+bind_added line to name v at = do
+  _ ← attribute_fits line to name v
+  _ ← add_module line to true at
+  bind_attribute line to name v
+
 abbrev pub bind_module : ℕ → List ℕ → Value → Option ℕ → Step (Unit {0})
 bind_module line name v None m = fault line kind.WrongKind m
-bind_module line name v (Some at) m = set_attribute line at name v m
+bind_module line name v (Some at) m = bind_own line at name v m
 
 abbrev pub bind_submodule : ℕ → ℕ → List ℕ → Value → Option ℕ → Step (Unit {0})
 bind_submodule line to name v None m = fault line kind.WrongKind m
-bind_submodule line to name v (Some at) m = (add_module line to true at >>= λ _. bind_attribute line to name v) m
+bind_submodule line to name v (Some at) m = bind_added line to name v at m
 
 -- of what is built only modules can be bound so
 abbrev pub bind_under : ℕ → ℕ → List ℕ → Value → Fragment → Step (Unit {0})

@@ -1,5 +1,5 @@
 -- Operators on a small machine, worked by hand.
-use Rattle.std.specs.Prelude.{◌≡◌, ℕ, pos, negsuc, true, List, [], ◌∷◌, codes, Option, Some, None, Result, Ok, Err, slice_get}
+use Rattle.std.specs.Prelude.{◌≡◌, ℕ, pos, negsuc, true, List, [], ◌∷◌, ◌++◌, codes, Option, Some, None, Result, Ok, Err, slice_get}
 use Rattle.lx_text.specs.declared.faults.Fault.{Fault}
 use Rattle.lx_text.specs.declared.faults.Kind.{Kind}
 use Rattle.lx_text.specs.declared.faults.Kind.TheVariants as kind
@@ -101,6 +101,16 @@ top = record some {
   made = a_statement (form.If None (the_expr 0) []) ∷ a_statement (form.Else 0 []) ∷ [];
 }
 
+-- that top, of the one class, with the lists `[a]` and `[a, 7]`
+abbrev pub topped : Machine
+topped = record top {
+  classes = record { name = codes "Top"; kind = bases.Soc; defaults = [] } ∷ [];
+  lists = items (a ∷ []) ∷ items (a ∷ int 7 ∷ []) ∷ [];
+}
+
+abbrev pub own_bound : List ℕ → Value → Machine → Result (Unit {0}) Fault
+own_bound name v m = value_of (bind_at 9 (holder.Plain (value.Object 0)) name v m)
+
 abbrev pub under : Fragment → Holder
 under f = holder.Part (record { module_ = 0; fragment = f })
 
@@ -173,3 +183,14 @@ pub record HaveAttributes : Type 0 where
   pub domain_is_bound : value_of (bind_at 9 (under fragment.Sync) (codes "pix") a top) ≡ at_nine kind.WrongKind
   pub fragment_is_bound : value_of (bind_at 9 (holder.Plain (value.Object 0)) (codes "comb") a top) ≡ at_nine kind.WrongKind
   pub signal_is_added : value_of (add_at 9 (holder.Plain (value.Object 0)) (codes "submodules") a top) ≡ at_nine kind.WrongKind
+
+-- Of the ports of the top.
+pub record HavePorts : Type 0 where
+  pub signals : own_bound (codes "ios") (value.List 0) topped ≡ Ok tt
+  pub an_integer : own_bound (codes "ios") (int 7) topped ≡ at_nine kind.WrongKind
+  pub an_integer_among : own_bound (codes "ios") (value.List 1) topped ≡ at_nine kind.WrongKind
+  pub a_tuple : own_bound (codes "ios") (value.Tuple 0) topped ≡ at_nine kind.WrongKind
+  pub added : value_of (bind_at 9 (under fragment.Submodules) (codes "ios") (value.Object 0) topped) ≡ at_nine kind.WrongKind
+  pub another_name : own_bound (codes "io") (int 7) topped ≡ Ok tt
+  -- a module of a class that isn't the last
+  pub another_module : own_bound (codes "ios") (int 7) (record topped { classes = topped.classes ++ topped.classes }) ≡ Ok tt

@@ -1,13 +1,15 @@
 //! What attributes are bound and added to.
 
-ghost use Rattle.std.specs.Prelude.{◌≡◌};
+ghost use Rattle.std.specs.Prelude.{◌≡◌, slice_get};
 ghost use Rattle.lx_state.specs.Step.{Gives};
-ghost use Rattle.lx_ops.specs.Places.{add_at, add_fragment, add_nothing, add_part, add_under, adds, bind_at, bind_held, bind_module, bind_submodule, bind_under, held, holder_of, is_sync, named_holder, part_named, part_of, read_at, setattr_holder, takes_names};
+ghost use Rattle.lx_ops.specs.Places.{add_at, add_fragment, add_nothing, add_part, add_under, adds, attribute_fits, bind_added, bind_at, bind_held, bind_module, bind_own, bind_submodule, bind_under, held, holder_of, is_ports, is_sync, named_holder, part_named, part_of, read_at, setattr_holder, takes_names};
 
 use crate::attributes::{Fragment, attribute_of, fragment_named};
+use lx_objects::ios::ios_of;
 use lx_objects::modules::{
     add_comb, add_module, add_modules, add_sync, bind_attribute, module_of, set_attribute,
 };
+use lx_paths::paths::is_top;
 use lx_state::work::fault;
 use lx_state::{Leaves, Machine, Value};
 use lx_text::{Kind, Refusal};
@@ -108,6 +110,63 @@ pub fn setattr_holder(
     named_holder(machine, line, holder)
 }
 
+// Whether an attribute is the `ios` of the top.
+fn is_ports(machine: &Machine, name: &[u8], at: usize) -> bool
+    ensures { result ≡ is_ports machine.now name.now (slice_get machine.now.modules at) }
+{
+    match machine.modules.get(at) {
+        Some(module) => name == b"ios".as_slice() && is_top(machine, module),
+        None => false,
+    }
+}
+
+// The top binds `ios` to lists of signals alone.
+fn attribute_fits(
+    machine: &Machine,
+    alloc: Global,
+    line: u32,
+    at: usize,
+    name: &[u8],
+    value: Value,
+) -> Result<(), Refusal>
+    ensures { Gives result machine.now (attribute_fits line at name.now value machine.now) }
+{
+    if is_ports(machine, name, at) {
+        ios_of(machine, alloc, line, value)?;
+    }
+    Ok(())
+}
+
+fn bind_own(
+    machine: &mut Machine,
+    alloc: Global,
+    line: u32,
+    at: usize,
+    name: &[u8],
+    value: Value,
+) -> Result<(), Refusal>
+    ensures { Gives result machine.new (bind_own line at name.now value machine.old) }
+{
+    attribute_fits(machine, alloc, line, at, name, value)?;
+    set_attribute(machine, alloc, line, at, name, value)
+}
+
+fn bind_added(
+    machine: &mut Machine,
+    alloc: Global,
+    line: u32,
+    to: usize,
+    name: &[u8],
+    value: Value,
+    at: usize,
+) -> Result<(), Refusal>
+    ensures { Gives result machine.new (bind_added line to name.now value at machine.old) }
+{
+    attribute_fits(machine, alloc, line, to, name, value)?;
+    add_module(machine, alloc, line, to, true, at)?;
+    bind_attribute(machine, alloc, line, to, name, value)
+}
+
 fn bind_module(
     machine: &mut Machine,
     alloc: Global,
@@ -119,7 +178,7 @@ fn bind_module(
     ensures { Gives result machine.new (bind_module line name.now value at machine.old) }
 {
     match at {
-        Some(at) => set_attribute(machine, alloc, line, at, name, value),
+        Some(at) => bind_own(machine, alloc, line, at, name, value),
         None => Err(fault(line, Kind::WrongKind)),
     }
 }
@@ -136,10 +195,7 @@ fn bind_submodule(
     ensures { Gives result machine.new (bind_submodule line to name.now value at machine.old) }
 {
     match at {
-        Some(at) => {
-            add_module(machine, alloc, line, to, true, at)?;
-            bind_attribute(machine, alloc, line, to, name, value)
-        }
+        Some(at) => bind_added(machine, alloc, line, to, name, value, at),
         None => Err(fault(line, Kind::WrongKind)),
     }
 }

@@ -1,6 +1,6 @@
 //! Operators worked by hand.
 
-ghost use Rattle.lx_ops.specs.Worked.{AreAssigned, AreCompared, AreComputed, AreExpressed, HaveAttributes};
+ghost use Rattle.lx_ops.specs.Worked.{AreAssigned, AreCompared, AreComputed, AreExpressed, HaveAttributes, HavePorts};
 
 /// What operators do, worked by hand.
 pub fn operators_are_worked()
@@ -9,4 +9,5 @@ pub fn operators_are_worked()
     ensures expressed { AreExpressed }
     ensures assigned { AreAssigned }
     ensures attributes { HaveAttributes }
+    ensures ports { HavePorts }
 {}

@@ -3,6 +3,7 @@ use Rattle.std.specs.Prelude.{◌≡◌, ℕ, zero, suc, Bool, true, false, not,
 use Rattle.std.specs.List.{list_all}
 use Rattle.std.specs.Str.{bytes_eq}
 use Rattle.lx_text.specs.declared.faults.LimitKind.TheVariants as limit
+use Rattle.lx_text.specs.declared.faults.Kind.{Kind}
 use Rattle.lx_text.specs.declared.faults.Kind.TheVariants as kind
 use Rattle.lx_value.specs.declared.arguments.Param.{Param}
 use Rattle.lx_fhdl.specs.Keeping.{is_distinct}
@@ -15,8 +16,9 @@ use Rattle.lx_state.specs.declared.machine.Machine.{Machine}
 use Rattle.lx_state.specs.declared.machine.Module.{Module}
 use Rattle.lx_state.specs.declared.machine.ModuleKind.{ModuleKind}
 use Rattle.lx_state.specs.declared.machine.ModuleKind.TheVariants as bases
+use Rattle.lx_state.specs.Changes.{changed}
 use Rattle.lx_state.specs.Frames.{enter, leave, or_else, set_param}
-use Rattle.lx_state.specs.Step.{Step, give, fault, or_fault, reads, ◌>>=◌}
+use Rattle.lx_state.specs.Step.{Step, give, fault, or_fault, ◌>>=◌}
 use Rattle.lx_state.specs.Work.{name_fits}
 use Rattle.lx_objects.specs.Modules.{module_made}
 use Rattle.lx_builtins.specs.Arguments.{argument, bound_to}
@@ -120,14 +122,18 @@ with_lite bases.Soc = bases.Soc
 with_lite bases.Lite = bases.Lite
 with_lite bases.Plain = bases.Lite
 
+-- only the last class may be a system, and systems are not built yet
+abbrev pub system_fault : Bool → Kind
+system_fault true = kind.NotYetBuilt
+system_fault false = kind.WrongKind
+
 abbrev pub with_base : Bool → ast.Base → ModuleKind → Step ModuleKind
 with_base last base so_far =
     if bytes_eq base.name (codes "Module") || bytes_eq base.name (codes "AutoCSR") then give so_far
     else (if bytes_eq base.name (codes "LiteXModule") then give (with_lite so_far)
-    else (if bytes_eq base.name (codes "SoCCore") then (if last then give bases.Soc else fault base.line kind.WrongKind)
+    else (if bytes_eq base.name (codes "SoCCore") then fault base.line (system_fault last)
     else fault base.line (kind.UnknownName base.name)))
 
--- a `SoCCore` is the base of the last class alone
 unfoldable pub bases_run : Bool → ModuleKind → List ast.Base → Step ModuleKind
 bases_run last so_far [] = give so_far
 bases_run last so_far (base ∷ rest) = do
@@ -153,25 +159,32 @@ are_params params = is_distinct (codes "self" ∷ map param_name params)
 unfoldable pub params_fit : ast.Class → Step (Unit {0})
 params_fit c m = if are_params c.params then give tt m else fault c.init_line kind.WrongCount m
 
-unfoldable pub keep_class : Class → Step (Unit {0})
-keep_class c m = give tt (record m { classes = m.classes ++ c ∷ [] })
+-- a further class, which no module is of yet
+unfoldable pub keep_class : Class → Step ℕ
+keep_class c m = give (length m.classes) (record m { classes = m.classes ++ c ∷ [] })
+
+abbrev pub with_defaults : List (Option Value) → Class → Class
+with_defaults defaults c = record c { defaults = defaults }
+
+unfoldable pub keep_defaults : ℕ → List (Option Value) → Step (Unit {0})
+keep_defaults at defaults m = give tt (record m { classes = changed m.classes at (with_defaults defaults) })
 
 -- a class sees those above it; its defaults see no parameter and no `self`
-unfoldable pub class_defaults : Make → ast.Class → Step (List (Option Value))
-class_defaults make c = do
-  above ← reads (λ m. length m.classes)
-  frame ← enter None above
+unfoldable pub class_defaults : Make → ℕ → ast.Class → Step (Unit {0})
+class_defaults make at c = do
+  frame ← enter None at
   defaults ← defaults_run make c.params
   _ ← leave frame
-  give defaults
+  keep_defaults at defaults
 
+-- it is kept before its defaults are run: so modules of the last class that is kept are the top alone
 unfoldable pub class_run : Make → Bool → ast.Class → Step (Unit {0})
 class_run make last c = do
   _ ← name_fits c.line c.name
   kind_ ← bases_run last bases.Plain c.bases
   _ ← params_fit c
-  defaults ← class_defaults make c
-  keep_class (record { name = c.name; kind = kind_; defaults = defaults })
+  at ← keep_class (record { name = c.name; kind = kind_; defaults = [] })
+  class_defaults make at c
 
 abbrev pub is_end : {A : Type 0} → List A → Bool
 is_end [] = true

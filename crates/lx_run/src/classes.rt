@@ -1,16 +1,18 @@
 //! Going through the classes of a description, and making its top.
 
-ghost use Rattle.std.specs.Prelude.{◌≡◌, All, IfOk, length, map, slice_get};
+ghost use Rattle.std.specs.Prelude.{[], ◌≡◌, All, IfOk, length, map, slice_get};
 ghost use Rattle.std.specs.List.{list_any};
 ghost use Rattle.std.specs.Str.{bytes_eq};
 ghost use Rattle.lx_syntax.specs.Classes.{base_of};
 ghost use Rattle.lx_syntax.specs.Forms.{bound_at, class_of, classes_of, expr_of, param_at};
+ghost use Rattle.lx_state.specs.Changes.{changed};
 ghost use Rattle.lx_state.specs.Step.{Gives};
 ghost use Rattle.lx_builtins.specs.Arguments.{argument, bound_to};
-ghost use Rattle.lx_run.specs.Classes.{all_have_defaults, are_params, bases_run, class_defaults, class_kind, class_run, classes_run, default_run, defaults_of, defaults_run, description_run, is_none, module_begun, module_object, param_bound, param_name, param_of, param_value, params_bound, params_fit, top_made, with_base, with_lite};
+ghost use Rattle.lx_run.specs.Classes.{all_have_defaults, are_params, bases_run, class_defaults, class_kind, class_run, classes_run, default_run, defaults_of, defaults_run, description_run, is_none, keep_class, keep_defaults, module_begun, module_object, param_bound, param_name, param_of, param_value, params_bound, params_fit, system_fault, top_made, with_base, with_defaults, with_lite};
 ghost use Rattle.lx_state.specs.declared.machine.ModuleKind.TheVariants as kinds;
 ghost use Rattle.lx_run.specs.Meant.{IsLowerClass, IsLowerOption, IsLowerParam, makes};
 
+use crate::descent::{GREATEST_NESTED, Levels};
 use crate::reading::{class_at, class_in};
 use crate::run::{eval, module_run};
 use lx_arena::Id;
@@ -187,6 +189,17 @@ pub(crate) fn module_begun(
 
 // ---- going through the classes
 
+// Only the last class may be a system, and systems are not built yet.
+fn system_fault(last: bool) -> Kind
+    ensures { result ≡ system_fault last }
+{
+    if last {
+        Kind::NotYetBuilt
+    } else {
+        Kind::WrongKind
+    }
+}
+
 // The kind with a further base.
 fn with_base(
     machine: &Machine,
@@ -207,11 +220,7 @@ fn with_base(
         return Ok(with_lite(so_far));
     }
     if name == b"SoCCore".as_slice() {
-        return if last {
-            Ok(ModuleKind::Soc)
-        } else {
-            Err(fault(base.line, Kind::WrongKind))
-        };
+        return Err(fault(base.line, system_fault(last)));
     }
     Err(unknown(alloc, base.line, name))
 }
@@ -248,11 +257,11 @@ fn default_run(
     machine: &mut Machine,
     alloc: Global,
     syntax: &Syntax,
-    depth: u32,
+    depth: Levels,
     default: Option<Id<PyNodes>>,
 ) -> Result<Option<Value>, Refusal>
     requires { IsLowerOption (length syntax.now.nodes) default }
-    ensures { Gives result machine.new (default_run (makes syntax.now depth) (bound_at (expr_of syntax.now) default) machine.old) }
+    ensures { Gives result machine.new (default_run (makes syntax.now depth.classes) (bound_at (expr_of syntax.now) default) machine.old) }
 {
     match default {
         None => Ok(None),
@@ -268,11 +277,11 @@ fn defaults_run(
     machine: &mut Machine,
     alloc: Global,
     syntax: &Syntax,
-    depth: u32,
+    depth: Levels,
     params: &[Parameter],
 ) -> Result<List<Option<Value>>, Refusal>
     requires { All (IsLowerParam (length syntax.now.nodes)) params.now }
-    ensures { Gives result machine.new (defaults_run (makes syntax.now depth) (map (param_at syntax.now.src (expr_of syntax.now)) params.now) machine.old) }
+    ensures { Gives result machine.new (defaults_run (makes syntax.now depth.classes) (map (param_at syntax.now.src (expr_of syntax.now)) params.now) machine.old) }
 {
     let mut defaults = List::new(alloc);
     for param in params {
@@ -321,57 +330,88 @@ fn params_fit(machine: &Machine, syntax: &Syntax, class: &ClassForm) -> Result<(
     }
 }
 
-// The number of classes gone through.
-fn classes_above(machine: &Machine) -> usize
-    ensures { result ≡ length machine.now.classes }
+// Keeps a further class, which no module is of yet, and gives its place.
+#[tactic(auto, unfolding(crate::specs::Classes::keep_class))]
+fn keep_class(
+    machine: &mut Machine,
+    alloc: Global,
+    name: &[u8],
+    kind: ModuleKind,
+) -> Result<usize, Refusal>
+    ensures { Gives result machine.new (keep_class (record { name = name.now; kind = kind; defaults = [] }) machine.old) }
 {
-    machine.classes.len()
+    let at = machine.classes.len();
+    let name = Word::new(alloc, name)?;
+    machine.classes.push(Class {
+        name,
+        kind,
+        defaults: List::new(alloc),
+    })?;
+    Ok(at)
 }
 
-// Runs the defaults of a class, which see no parameter and no `self`.
-#[tactic(auto, unfolding(crate::specs::Classes::class_defaults))]
+// Gives the class at a place its defaults.
+#[tactic(auto, using(lx_state::proofs::Changes::changed_there, lx_state::proofs::Changes::set_twice, lx_state::proofs::Changes::not_changed))]
+fn put_defaults(alloc: Global, classes: &mut List<Class>, at: usize, defaults: List<Option<Value>>)
+    ensures { classes.new ≡ changed classes.old at (with_defaults defaults) }
+{
+    if at < classes.len() {
+        let empty = Class {
+            name: Word::empty(alloc),
+            kind: ModuleKind::Plain,
+            defaults: List::new(alloc),
+        };
+        let Class { name, kind, .. } = classes.replace(at, empty);
+        classes.replace(
+            at,
+            Class {
+                name,
+                kind,
+                defaults,
+            },
+        );
+    }
+}
+
+// Runs the defaults of the class at a place, which see no parameter and no `self`.
+#[tactic(auto, unfolding(crate::specs::Classes::class_defaults, crate::specs::Classes::keep_defaults))]
 fn class_defaults(
     machine: &mut Machine,
     alloc: Global,
     syntax: &Syntax,
-    depth: u32,
+    depth: Levels,
+    at: usize,
     class: &ClassForm,
-) -> Result<List<Option<Value>>, Refusal>
+) -> Result<(), Refusal>
     requires { IsLowerClass (length syntax.now.nodes) class.now }
-    ensures { Gives result machine.new (class_defaults (makes syntax.now depth) (class_of syntax.now class.now) machine.old) }
+    ensures { Gives result machine.new (class_defaults (makes syntax.now depth.classes) at (class_of syntax.now class.now) machine.old) }
 {
-    let above = classes_above(machine);
-    let frame = machine.enter(alloc, None, above);
+    let frame = machine.enter(alloc, None, at);
     let defaults = defaults_run(machine, alloc, syntax, depth, class.params.as_slice())?;
     machine.leave(frame);
-    Ok(defaults)
+    put_defaults(alloc, &mut machine.classes, at, defaults);
+    Ok(())
 }
 
 // Goes through a class.
-#[tactic(auto, unfolding(crate::specs::Classes::class_run, crate::specs::Classes::keep_class))]
+#[tactic(auto, unfolding(crate::specs::Classes::class_run))]
 fn class_run(
     machine: &mut Machine,
     alloc: Global,
     syntax: &Syntax,
-    depth: u32,
+    depth: Levels,
     last: bool,
     class: &ClassForm,
 ) -> Result<(), Refusal>
     requires { IsLowerClass (length syntax.now.nodes) class.now }
-    ensures { Gives result machine.new (class_run (makes syntax.now depth) last (class_of syntax.now class.now) machine.old) }
+    ensures { Gives result machine.new (class_run (makes syntax.now depth.classes) last (class_of syntax.now class.now) machine.old) }
 {
     let name = syntax.text(&class.name);
     machine.name_fits(class.line, name)?;
     let kind = bases_run(machine, alloc, syntax, last, class.bases.as_slice())?;
     params_fit(machine, syntax, class)?;
-    let defaults = class_defaults(machine, alloc, syntax, depth, class)?;
-    let name = Word::new(alloc, name)?;
-    machine.classes.push(Class {
-        name,
-        kind,
-        defaults,
-    })?;
-    Ok(())
+    let at = keep_class(machine, alloc, name, kind)?;
+    class_defaults(machine, alloc, syntax, depth, at, class)
 }
 
 // Goes through all classes.
@@ -380,9 +420,9 @@ fn classes_run(
     machine: &mut Machine,
     alloc: Global,
     syntax: &Syntax,
-    depth: u32,
+    depth: Levels,
 ) -> Result<(), Refusal>
-    ensures { Gives result machine.new (classes_run (makes syntax.now depth) (classes_of syntax.now) machine.old) }
+    ensures { Gives result machine.new (classes_run (makes syntax.now depth.classes) (classes_of syntax.now) machine.old) }
 {
     let count = syntax.class_count();
     for place in 0..count {
@@ -419,7 +459,13 @@ fn top_made(
 {
     if all_have_defaults(syntax, class.params.as_slice()) {
         let values = List::new(alloc);
-        module_run(machine, alloc, syntax, 63, class.line, at, class, &values)
+        let depth = Levels {
+            classes: 63,
+            nested: GREATEST_NESTED,
+        };
+        module_run(
+            machine, alloc, syntax, depth, class.line, at, class, &values,
+        )
     } else {
         Err(fault(class.init_line, Kind::WrongCount))
     }
@@ -434,7 +480,11 @@ pub fn description_run(
 ) -> Result<Value, Refusal>
     ensures { Gives result machine.new (description_run (classes_of syntax.now) machine.old) }
 {
-    classes_run(machine, alloc, syntax, 64)?;
+    let depth = Levels {
+        classes: 64,
+        nested: GREATEST_NESTED,
+    };
+    classes_run(machine, alloc, syntax, depth)?;
     let at = syntax.class_count().saturating_sub(1);
     match class_at(syntax, at) {
         Some(class) => top_made(machine, alloc, syntax, at, class),

@@ -3,6 +3,7 @@
 
 mod arguments;
 pub mod classes;
+pub mod descent;
 mod loops;
 mod reading;
 pub mod run;

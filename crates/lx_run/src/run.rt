@@ -1,5 +1,4 @@
-//! Running expressions and statements, and making the modules of classes. `depth` says how many classes may still be made
-//! one within another.
+//! Running expressions and statements, and making the modules of classes. `depth` says how far a run may still go down.
 
 ghost use Rattle.std.specs.Prelude.{◌≡◌, ◌<◌, ◌≤◌, ◌++◌, All, IfOk, [], length, option_to_list};
 ghost use Rattle.lx_token.specs.Meanings.{quoted_bytes};
@@ -15,6 +14,7 @@ ghost use Rattle.lx_run.specs.Signs.{all_applied};
 
 use crate::arguments::{no_arguments, with_held, with_items, with_named};
 use crate::classes::{class_bound, module_begun, params_bound};
+use crate::descent::Levels;
 use crate::loops::{names_bound, names_hidden, names_restored};
 use crate::reading::{Operand, Tail, class_at, expr_at, operand_of, stmt_at, tail_of};
 use crate::signs::{Pending, all_applied, comparison_of, python_op, with_nots, with_signs};
@@ -82,12 +82,19 @@ pub fn eval(
     machine: &mut Machine,
     alloc: Global,
     syntax: &Syntax,
-    depth: u32,
+    depth: Levels,
     id: Id<PyNodes>,
 ) -> Result<Value, Refusal>
     requires { id.place < length syntax.now.nodes }
-    ensures { Gives result machine.new (run_plain syntax.now depth id machine.old) }
+    ensures { Gives result machine.new (run_plain syntax.now depth.classes id machine.old) }
 {
+    if depth.nested == 0 {
+        return Err(Refusal::NoMemory);
+    }
+    let depth = Levels {
+        classes: depth.classes,
+        nested: depth.nested - 1,
+    };
     let node = expr_at(syntax, id);
     let line = node.line;
     match &node.expr {
@@ -221,13 +228,13 @@ fn base_run(
     machine: &mut Machine,
     alloc: Global,
     syntax: &Syntax,
-    depth: u32,
+    depth: Levels,
     waiting: List<Pending>,
     line: u32,
     base: Id<PyNodes>,
 ) -> Result<List<Pending>, Refusal>
     requires { base.place < length syntax.now.nodes }
-    ensures { Gives result machine.new (base_run waiting line (run_plain syntax.now depth base) machine.old) }
+    ensures { Gives result machine.new (base_run waiting line (run_plain syntax.now depth.classes base) machine.old) }
 {
     let value = eval(machine, alloc, syntax, depth, base)?;
     let mut pending = waiting;
@@ -242,12 +249,12 @@ fn spine(
     machine: &mut Machine,
     alloc: Global,
     syntax: &Syntax,
-    depth: u32,
+    depth: Levels,
     waiting: List<Pending>,
     operand: Id<PyNodes>,
 ) -> Result<Value, Refusal>
     requires { operand.place < length syntax.now.nodes }
-    ensures { Gives result machine.new (go_on (run_plain syntax.now depth operand machine.old) (all_applied waiting)) }
+    ensures { Gives result machine.new (go_on (run_plain syntax.now depth.classes operand machine.old) (all_applied waiting)) }
 {
     let mut pending = waiting;
     let mut id = operand;
@@ -277,13 +284,13 @@ fn evals(
     machine: &mut Machine,
     alloc: Global,
     syntax: &Syntax,
-    depth: u32,
+    depth: Levels,
     bound: usize,
     ids: &[Id<PyNodes>],
 ) -> Result<List<Value>, Refusal>
     requires within { bound ≤ length syntax.now.nodes }
     requires lower { AreLower bound ids.now }
-    ensures { Gives result machine.new (evals (makes syntax.now depth) (items_at (expr_of syntax.now) ids.now) machine.old) }
+    ensures { Gives result machine.new (evals (makes syntax.now depth.classes) (items_at (expr_of syntax.now) ids.now) machine.old) }
 {
     let mut values = List::new(alloc);
     for id in ids {
@@ -300,11 +307,11 @@ fn entry_run(
     machine: &mut Machine,
     alloc: Global,
     syntax: &Syntax,
-    depth: u32,
+    depth: Levels,
     pair: Couple,
 ) -> Result<Pair, Refusal>
     requires { IsLowerCouple (length syntax.now.nodes) pair }
-    ensures { Gives result machine.new (entry_run (run_plain syntax.now depth pair.first) (run_plain syntax.now depth pair.second) machine.old) }
+    ensures { Gives result machine.new (entry_run (run_plain syntax.now depth.classes pair.first) (run_plain syntax.now depth.classes pair.second) machine.old) }
 {
     let key = eval(machine, alloc, syntax, depth, pair.first)?;
     let value = eval(machine, alloc, syntax, depth, pair.second)?;
@@ -318,13 +325,13 @@ fn entries(
     machine: &mut Machine,
     alloc: Global,
     syntax: &Syntax,
-    depth: u32,
+    depth: Levels,
     bound: usize,
     pairs: &[Couple],
 ) -> Result<List<Pair>, Refusal>
     requires within { bound ≤ length syntax.now.nodes }
     requires lower { All (IsLowerCouple bound) pairs.now }
-    ensures { Gives result machine.new (entries (makes syntax.now depth) (pairs_at (expr_of syntax.now) pairs.now) machine.old) }
+    ensures { Gives result machine.new (entries (makes syntax.now depth.classes) (pairs_at (expr_of syntax.now) pairs.now) machine.old) }
 {
     let mut made = List::new(alloc);
     for pair in pairs {
@@ -341,12 +348,12 @@ fn tested(
     machine: &mut Machine,
     alloc: Global,
     syntax: &Syntax,
-    depth: u32,
+    depth: Levels,
     line: u32,
     id: Id<PyNodes>,
 ) -> Result<bool, Refusal>
     requires { id.place < length syntax.now.nodes }
-    ensures { Gives result machine.new (tested line (run_plain syntax.now depth id) machine.old) }
+    ensures { Gives result machine.new (tested line (run_plain syntax.now depth.classes id) machine.old) }
 {
     let value = eval(machine, alloc, syntax, depth, id)?;
     truth(machine, line, value)
@@ -359,7 +366,7 @@ fn chosen(
     machine: &mut Machine,
     alloc: Global,
     syntax: &Syntax,
-    depth: u32,
+    depth: Levels,
     bound: usize,
     first: Id<PyNodes>,
     rest: &[Branching],
@@ -367,7 +374,7 @@ fn chosen(
     requires within { bound ≤ length syntax.now.nodes }
     requires first { first.place < bound }
     requires lower { All (IsLowerBranching bound) rest.now }
-    ensures { Gives result machine.new (chosen (makes syntax.now depth) (run_plain syntax.now depth first) (choices_at (expr_of syntax.now) rest.now) machine.old) }
+    ensures { Gives result machine.new (chosen (makes syntax.now depth.classes) (run_plain syntax.now depth.classes first) (choices_at (expr_of syntax.now) rest.now) machine.old) }
 {
     let mut value = first;
     for branching in rest {
@@ -394,12 +401,12 @@ fn weighed(
     machine: &mut Machine,
     alloc: Global,
     syntax: &Syntax,
-    depth: u32,
+    depth: Levels,
     line: u32,
     id: Id<PyNodes>,
 ) -> Result<(Value, bool), Refusal>
     requires { id.place < length syntax.now.nodes }
-    ensures { Gives result machine.new (weighed line (run_plain syntax.now depth id) machine.old) }
+    ensures { Gives result machine.new (weighed line (run_plain syntax.now depth.classes id) machine.old) }
 {
     let value = eval(machine, alloc, syntax, depth, id)?;
     let holds = truth(machine, line, value)?;
@@ -420,7 +427,7 @@ fn first_that(
     machine: &mut Machine,
     alloc: Global,
     syntax: &Syntax,
-    depth: u32,
+    depth: Levels,
     bound: usize,
     wanted: bool,
     line: u32,
@@ -428,7 +435,7 @@ fn first_that(
 ) -> Result<Value, Refusal>
     requires within { bound ≤ length syntax.now.nodes }
     requires lower { AreLower bound ids.now }
-    ensures { Gives result machine.new (first_that (makes syntax.now depth) wanted line (items_at (expr_of syntax.now) ids.now) machine.old) }
+    ensures { Gives result machine.new (first_that (makes syntax.now depth.classes) wanted line (items_at (expr_of syntax.now) ids.now) machine.old) }
 {
     let mut rest = ids;
     'operands: loop {
@@ -455,13 +462,13 @@ fn link_run(
     machine: &mut Machine,
     alloc: Global,
     syntax: &Syntax,
-    depth: u32,
+    depth: Levels,
     line: u32,
     value: Value,
     link: Link,
 ) -> Result<Value, Refusal>
     requires { link.operand.place < length syntax.now.nodes }
-    ensures { Gives result machine.new (link_run line link.operator value (run_plain syntax.now depth link.operand) machine.old) }
+    ensures { Gives result machine.new (link_run line link.operator value (run_plain syntax.now depth.classes link.operand) machine.old) }
 {
     let operand = eval(machine, alloc, syntax, depth, link.operand)?;
     binary(
@@ -481,7 +488,7 @@ fn linked(
     machine: &mut Machine,
     alloc: Global,
     syntax: &Syntax,
-    depth: u32,
+    depth: Levels,
     bound: usize,
     line: u32,
     first: Value,
@@ -489,7 +496,7 @@ fn linked(
 ) -> Result<Value, Refusal>
     requires within { bound ≤ length syntax.now.nodes }
     requires lower { All (IsLowerLink bound) rest.now }
-    ensures { Gives result machine.new (linked (makes syntax.now depth) line first (links_at (expr_of syntax.now) rest.now) machine.old) }
+    ensures { Gives result machine.new (linked (makes syntax.now depth.classes) line first (links_at (expr_of syntax.now) rest.now) machine.old) }
 {
     let mut value = first;
     for link in rest {
@@ -506,11 +513,11 @@ fn some_run(
     machine: &mut Machine,
     alloc: Global,
     syntax: &Syntax,
-    depth: u32,
+    depth: Levels,
     id: Id<PyNodes>,
 ) -> Result<Option<Value>, Refusal>
     requires { id.place < length syntax.now.nodes }
-    ensures { Gives result machine.new (some_value (run_plain syntax.now depth id) machine.old) }
+    ensures { Gives result machine.new (some_value (run_plain syntax.now depth.classes id) machine.old) }
 {
     let value = eval(machine, alloc, syntax, depth, id)?;
     Ok(Some(value))
@@ -523,7 +530,7 @@ fn kept(
     machine: &mut Machine,
     alloc: Global,
     syntax: &Syntax,
-    depth: u32,
+    depth: Levels,
     bound: usize,
     line: u32,
     item: Id<PyNodes>,
@@ -532,7 +539,7 @@ fn kept(
     requires within { bound ≤ length syntax.now.nodes }
     requires item { item.place < bound }
     requires filter { IsLowerOption bound filter }
-    ensures { Gives result machine.new (kept_of syntax.now depth line item filter machine.old) }
+    ensures { Gives result machine.new (kept_of syntax.now depth.classes line item filter machine.old) }
 {
     match filter {
         None => some_run(machine, alloc, syntax, depth, item),
@@ -566,7 +573,7 @@ fn turn_gathered(
     machine: &mut Machine,
     alloc: Global,
     syntax: &Syntax,
-    depth: u32,
+    depth: Levels,
     bound: usize,
     line: u32,
     names: &[Token],
@@ -578,7 +585,7 @@ fn turn_gathered(
     requires within { bound ≤ length syntax.now.nodes }
     requires item { item.place < bound }
     requires filter { IsLowerOption bound filter }
-    ensures { Gives result machine.new (turn_gathered line (texts syntax.now names.now) (kept_of syntax.now depth line item filter) so_far value machine.old) }
+    ensures { Gives result machine.new (turn_gathered line (texts syntax.now names.now) (kept_of syntax.now depth.classes line item filter) so_far value machine.old) }
 {
     machine.spend(line, 1)?;
     names_bound(machine, alloc, syntax, line, names, value)?;
@@ -593,7 +600,7 @@ fn gathered(
     machine: &mut Machine,
     alloc: Global,
     syntax: &Syntax,
-    depth: u32,
+    depth: Levels,
     bound: usize,
     line: u32,
     names: &[Token],
@@ -604,7 +611,7 @@ fn gathered(
     requires within { bound ≤ length syntax.now.nodes }
     requires item { item.place < bound }
     requires filter { IsLowerOption bound filter }
-    ensures { Gives result machine.new (gathered line (texts syntax.now names.now) (kept_of syntax.now depth line item filter) [] items.now machine.old) }
+    ensures { Gives result machine.new (gathered line (texts syntax.now names.now) (kept_of syntax.now depth.classes line item filter) [] items.now machine.old) }
 {
     let mut values = List::new(alloc);
     for value in items {
@@ -622,7 +629,7 @@ fn comprehended(
     machine: &mut Machine,
     alloc: Global,
     syntax: &Syntax,
-    depth: u32,
+    depth: Levels,
     bound: usize,
     line: u32,
     names: &[Token],
@@ -633,7 +640,7 @@ fn comprehended(
     requires within { bound ≤ length syntax.now.nodes }
     requires item { item.place < bound }
     requires filter { IsLowerOption bound filter }
-    ensures { Gives result machine.new (comprehended line (texts syntax.now names.now) (kept_of syntax.now depth line item filter) source machine.old) }
+    ensures { Gives result machine.new (comprehended line (texts syntax.now names.now) (kept_of syntax.now depth.classes line item filter) source machine.old) }
 {
     let items = machine.items_of(alloc, line, source)?;
     let hidden = names_hidden(machine, alloc, syntax, names)?;
@@ -662,13 +669,13 @@ fn bound_run(
     machine: &mut Machine,
     alloc: Global,
     syntax: &Syntax,
-    depth: u32,
+    depth: Levels,
     bound: usize,
     id: Option<Id<PyNodes>>,
 ) -> Result<Option<Value>, Refusal>
     requires within { bound ≤ length syntax.now.nodes }
     requires lower { IsLowerOption bound id }
-    ensures { Gives result machine.new (bound_meant syntax.now depth id machine.old) }
+    ensures { Gives result machine.new (bound_meant syntax.now depth.classes id machine.old) }
 {
     match id {
         None => Ok(None),
@@ -683,13 +690,13 @@ fn item_run(
     machine: &mut Machine,
     alloc: Global,
     syntax: &Syntax,
-    depth: u32,
+    depth: Levels,
     line: u32,
     value: Value,
     id: Id<PyNodes>,
 ) -> Result<Value, Refusal>
     requires { id.place < length syntax.now.nodes }
-    ensures { Gives result machine.new (item_run line value (run_plain syntax.now depth id) machine.old) }
+    ensures { Gives result machine.new (item_run line value (run_plain syntax.now depth.classes id) machine.old) }
 {
     let index = eval(machine, alloc, syntax, depth, id)?;
     item_of(machine, alloc, line, value, index)
@@ -702,7 +709,7 @@ fn slice_run(
     machine: &mut Machine,
     alloc: Global,
     syntax: &Syntax,
-    depth: u32,
+    depth: Levels,
     bound: usize,
     line: u32,
     value: Value,
@@ -712,7 +719,7 @@ fn slice_run(
     requires within { bound ≤ length syntax.now.nodes }
     requires low { IsLowerOption bound low }
     requires high { IsLowerOption bound high }
-    ensures { Gives result machine.new (slice_run line value (bound_meant syntax.now depth low) (bound_meant syntax.now depth high) machine.old) }
+    ensures { Gives result machine.new (slice_run line value (bound_meant syntax.now depth.classes low) (bound_meant syntax.now depth.classes high) machine.old) }
 {
     let first = bound_run(machine, alloc, syntax, depth, bound, low)?;
     let past = bound_run(machine, alloc, syntax, depth, bound, high)?;
@@ -748,13 +755,20 @@ pub fn hold(
     machine: &mut Machine,
     alloc: Global,
     syntax: &Syntax,
-    depth: u32,
+    depth: Levels,
     at: Standing,
     id: Id<PyNodes>,
 ) -> Result<Holder, Refusal>
     requires { id.place < length syntax.now.nodes }
-    ensures { Gives result machine.new (hold_run syntax.now depth at id machine.old) }
+    ensures { Gives result machine.new (hold_run syntax.now depth.classes at id machine.old) }
 {
+    if depth.nested == 0 {
+        return Err(Refusal::NoMemory);
+    }
+    let depth = Levels {
+        classes: depth.classes,
+        nested: depth.nested - 1,
+    };
     let node = expr_at(syntax, id);
     match &node.expr {
         ExprForm::Same(inner) => hold(machine, alloc, syntax, depth, at, *inner),
@@ -779,14 +793,14 @@ fn argument_run(
     machine: &mut Machine,
     alloc: Global,
     syntax: &Syntax,
-    depth: u32,
+    depth: Levels,
     at: Standing,
     line: u32,
     so_far: Arguments,
     argument: Argument,
 ) -> Result<Arguments, Refusal>
     requires { IsLowerArgument (length syntax.now.nodes) argument }
-    ensures { Gives result machine.new (argument_run syntax.now depth at line so_far argument machine.old) }
+    ensures { Gives result machine.new (argument_run syntax.now depth.classes at line so_far argument machine.old) }
 {
     match argument {
         Argument::Placed(id) => {
@@ -812,7 +826,7 @@ fn arguments_run(
     machine: &mut Machine,
     alloc: Global,
     syntax: &Syntax,
-    depth: u32,
+    depth: Levels,
     bound: usize,
     first: Standing,
     line: u32,
@@ -820,7 +834,7 @@ fn arguments_run(
 ) -> Result<Arguments, Refusal>
     requires within { bound ≤ length syntax.now.nodes }
     requires lower { All (IsLowerArgument bound) arguments.now }
-    ensures { Gives result machine.new (all_run syntax.now depth first line arguments.now machine.old) }
+    ensures { Gives result machine.new (all_run syntax.now depth.classes first line arguments.now machine.old) }
 {
     let mut at = first;
     let mut args = no_arguments(alloc);
@@ -838,12 +852,12 @@ fn called(
     machine: &mut Machine,
     alloc: Global,
     syntax: &Syntax,
-    depth: u32,
+    depth: Levels,
     line: u32,
     callee: Value,
     args: Arguments,
 ) -> Result<Value, Refusal>
-    ensures { Gives result machine.new (called (makes syntax.now depth) line callee args machine.old) }
+    ensures { Gives result machine.new (called (makes syntax.now depth.classes) line callee args machine.old) }
 {
     match callee {
         Value::Class(at) => make(machine, alloc, syntax, depth, line, at, &args),
@@ -860,7 +874,7 @@ fn call_run(
     machine: &mut Machine,
     alloc: Global,
     syntax: &Syntax,
-    depth: u32,
+    depth: Levels,
     bound: usize,
     line: u32,
     callee: Value,
@@ -868,7 +882,7 @@ fn call_run(
 ) -> Result<Value, Refusal>
     requires within { bound ≤ length syntax.now.nodes }
     requires lower { All (IsLowerArgument bound) arguments.now }
-    ensures { Gives result machine.new (call_meant syntax.now depth line callee arguments.now machine.old) }
+    ensures { Gives result machine.new (call_meant syntax.now depth.classes line callee arguments.now machine.old) }
 {
     let at = first_standing(callee);
     let args = arguments_run(machine, alloc, syntax, depth, bound, at, line, arguments)?;
@@ -882,7 +896,7 @@ fn trailer_run(
     machine: &mut Machine,
     alloc: Global,
     syntax: &Syntax,
-    depth: u32,
+    depth: Levels,
     bound: usize,
     line: u32,
     value: Value,
@@ -890,7 +904,7 @@ fn trailer_run(
 ) -> Result<Value, Refusal>
     requires within { bound ≤ length syntax.now.nodes }
     requires lower { IsLowerTrailer bound trailer.now }
-    ensures { Gives result machine.new (trailer_run syntax.now depth line value trailer.now machine.old) }
+    ensures { Gives result machine.new (trailer_run syntax.now depth.classes line value trailer.now machine.old) }
 {
     match trailer {
         Trailer::Attribute(name) => attribute_of(machine, alloc, line, value, syntax.text(name)),
@@ -942,7 +956,7 @@ fn last_run(
     machine: &mut Machine,
     alloc: Global,
     syntax: &Syntax,
-    depth: u32,
+    depth: Levels,
     bound: usize,
     at: Standing,
     line: u32,
@@ -951,7 +965,7 @@ fn last_run(
 ) -> Result<Holder, Refusal>
     requires within { bound ≤ length syntax.now.nodes }
     requires lower { IsLowerTrailer bound trailer.now }
-    ensures { Gives result machine.new (last_run syntax.now depth at line value trailer.now machine.old) }
+    ensures { Gives result machine.new (last_run syntax.now depth.classes at line value trailer.now machine.old) }
 {
     match trailer {
         Trailer::Attribute(name) => {
@@ -971,7 +985,7 @@ fn trailed(
     machine: &mut Machine,
     alloc: Global,
     syntax: &Syntax,
-    depth: u32,
+    depth: Levels,
     bound: usize,
     at: Standing,
     line: u32,
@@ -980,7 +994,7 @@ fn trailed(
 ) -> Result<Holder, Refusal>
     requires within { bound ≤ length syntax.now.nodes }
     requires lower { All (IsLowerTrailer bound) trailers.now }
-    ensures { Gives result machine.new (trailed (makes syntax.now depth) at line first (trailers_at syntax.now.src (expr_of syntax.now) trailers.now) machine.old) }
+    ensures { Gives result machine.new (trailed (makes syntax.now depth.classes) at line first (trailers_at syntax.now.src (expr_of syntax.now) trailers.now) machine.old) }
 {
     let mut value = first;
     let mut rest = trailers;
@@ -1025,11 +1039,11 @@ fn run_alone(
     machine: &mut Machine,
     alloc: Global,
     syntax: &Syntax,
-    depth: u32,
+    depth: Levels,
     id: Id<PyNodes>,
 ) -> Result<(), Refusal>
     requires { id.place < length syntax.now.nodes }
-    ensures { Gives result machine.new (run_alone (makes syntax.now depth) (expr_of syntax.now id.place) machine.old) }
+    ensures { Gives result machine.new (run_alone (makes syntax.now depth.classes) (expr_of syntax.now id.place) machine.old) }
 {
     if is_text(syntax, id) {
         return Ok(());
@@ -1045,13 +1059,13 @@ fn place_bound(
     machine: &mut Machine,
     alloc: Global,
     syntax: &Syntax,
-    depth: u32,
+    depth: Levels,
     line: u32,
     place: Place,
     value: Value,
 ) -> Result<(), Refusal>
     requires { IsLowerPlace (length syntax.now.nodes) place }
-    ensures { Gives result machine.new (place_bound (makes syntax.now depth) line (place_of syntax.now place) value machine.old) }
+    ensures { Gives result machine.new (place_bound (makes syntax.now depth.classes) line (place_of syntax.now place) value machine.old) }
 {
     match place {
         Place::Name(name) => machine.set_local(alloc, line, syntax.text(&name), value),
@@ -1069,13 +1083,13 @@ fn name_added(
     machine: &mut Machine,
     alloc: Global,
     syntax: &Syntax,
-    depth: u32,
+    depth: Levels,
     line: u32,
     name: &[u8],
     id: Id<PyNodes>,
 ) -> Result<(), Refusal>
     requires { id.place < length syntax.now.nodes }
-    ensures { Gives result machine.new (name_added line name.now (run_plain syntax.now depth id) machine.old) }
+    ensures { Gives result machine.new (name_added line name.now (run_plain syntax.now depth.classes id) machine.old) }
 {
     let first = machine.named(alloc, line, name)?;
     let second = eval(machine, alloc, syntax, depth, id)?;
@@ -1090,14 +1104,14 @@ fn fragment_added(
     machine: &mut Machine,
     alloc: Global,
     syntax: &Syntax,
-    depth: u32,
+    depth: Levels,
     line: u32,
     held: Holder,
     name: &[u8],
     id: Id<PyNodes>,
 ) -> Result<(), Refusal>
     requires { id.place < length syntax.now.nodes }
-    ensures { Gives result machine.new (fragment_added line held name.now (run_plain syntax.now depth id) machine.old) }
+    ensures { Gives result machine.new (fragment_added line held name.now (run_plain syntax.now depth.classes id) machine.old) }
 {
     let value = eval(machine, alloc, syntax, depth, id)?;
     add_at(machine, alloc, line, held, name, value)
@@ -1110,14 +1124,14 @@ fn attribute_sum(
     machine: &mut Machine,
     alloc: Global,
     syntax: &Syntax,
-    depth: u32,
+    depth: Levels,
     line: u32,
     held: Holder,
     name: &[u8],
     id: Id<PyNodes>,
 ) -> Result<Value, Refusal>
     requires { id.place < length syntax.now.nodes }
-    ensures { Gives result machine.new (attribute_sum line held name.now (run_plain syntax.now depth id) machine.old) }
+    ensures { Gives result machine.new (attribute_sum line held name.now (run_plain syntax.now depth.classes id) machine.old) }
 {
     let first = read_at(machine, alloc, line, held, name)?;
     let second = eval(machine, alloc, syntax, depth, id)?;
@@ -1131,7 +1145,7 @@ fn value_added(
     machine: &mut Machine,
     alloc: Global,
     syntax: &Syntax,
-    depth: u32,
+    depth: Levels,
     line: u32,
     of: Id<PyNodes>,
     held: Holder,
@@ -1140,7 +1154,7 @@ fn value_added(
 ) -> Result<(), Refusal>
     requires of { of.place < length syntax.now.nodes }
     requires value { id.place < length syntax.now.nodes }
-    ensures { Gives result machine.new (value_meant syntax.now depth line of name id held machine.old) }
+    ensures { Gives result machine.new (value_meant syntax.now depth.classes line of name id held machine.old) }
 {
     let text = syntax.text(&name);
     let sum = attribute_sum(machine, alloc, syntax, depth, line, held, text, id)?;
@@ -1162,7 +1176,7 @@ fn object_added(
     machine: &mut Machine,
     alloc: Global,
     syntax: &Syntax,
-    depth: u32,
+    depth: Levels,
     line: u32,
     of: Id<PyNodes>,
     held: Holder,
@@ -1171,7 +1185,7 @@ fn object_added(
 ) -> Result<(), Refusal>
     requires of { of.place < length syntax.now.nodes }
     requires value { id.place < length syntax.now.nodes }
-    ensures { Gives result machine.new (object_meant syntax.now depth line of name id held machine.old) }
+    ensures { Gives result machine.new (object_meant syntax.now depth.classes line of name id held machine.old) }
 {
     if adds(machine, held, syntax.text(&name)) {
         fragment_added(
@@ -1196,14 +1210,14 @@ fn place_added(
     machine: &mut Machine,
     alloc: Global,
     syntax: &Syntax,
-    depth: u32,
+    depth: Levels,
     line: u32,
     place: Place,
     id: Id<PyNodes>,
 ) -> Result<(), Refusal>
     requires place { IsLowerPlace (length syntax.now.nodes) place }
     requires value { id.place < length syntax.now.nodes }
-    ensures { Gives result machine.new (place_added (makes syntax.now depth) line (place_of syntax.now place) (expr_of syntax.now id.place) machine.old) }
+    ensures { Gives result machine.new (place_added (makes syntax.now depth.classes) line (place_of syntax.now place) (expr_of syntax.now id.place) machine.old) }
 {
     match place {
         Place::Name(name) => {
@@ -1223,12 +1237,19 @@ pub fn exec(
     machine: &mut Machine,
     alloc: Global,
     syntax: &Syntax,
-    depth: u32,
+    depth: Levels,
     id: Id<PyNodes>,
 ) -> Result<(), Refusal>
     requires { id.place < length syntax.now.nodes }
-    ensures { Gives result machine.new (exec (makes syntax.now depth) (stmt_of syntax.now id.place) machine.old) }
+    ensures { Gives result machine.new (exec (makes syntax.now depth.classes) (stmt_of syntax.now id.place) machine.old) }
 {
+    if depth.nested == 0 {
+        return Err(Refusal::NoMemory);
+    }
+    let depth = Levels {
+        classes: depth.classes,
+        nested: depth.nested - 1,
+    };
     let node = stmt_at(syntax, id);
     let line = node.line;
     match &node.stmt {
@@ -1284,13 +1305,13 @@ fn execs(
     machine: &mut Machine,
     alloc: Global,
     syntax: &Syntax,
-    depth: u32,
+    depth: Levels,
     bound: usize,
     ids: &[Id<PyNodes>],
 ) -> Result<(), Refusal>
     requires within { bound ≤ length syntax.now.nodes }
     requires lower { AreLower bound ids.now }
-    ensures { Gives result machine.new (block_run syntax.now depth ids.now machine.old) }
+    ensures { Gives result machine.new (block_run syntax.now depth.classes ids.now machine.old) }
 {
     for id in ids {
         exec(machine, alloc, syntax, depth, *id)?;
@@ -1305,7 +1326,7 @@ fn branched(
     machine: &mut Machine,
     alloc: Global,
     syntax: &Syntax,
-    depth: u32,
+    depth: Levels,
     bound: usize,
     line: u32,
     branches: &[Branch],
@@ -1314,7 +1335,7 @@ fn branched(
     requires within { bound ≤ length syntax.now.nodes }
     requires branches { All (IsLowerBranch bound) branches.now }
     requires rest { AreLower bound rest.now }
-    ensures { Gives result machine.new (branches_meant syntax.now depth line branches.now rest.now machine.old) }
+    ensures { Gives result machine.new (branches_meant syntax.now depth.classes line branches.now rest.now machine.old) }
 {
     for branch in branches {
         let holds = tested(machine, alloc, syntax, depth, line, branch.condition)?;
@@ -1332,7 +1353,7 @@ fn turn(
     machine: &mut Machine,
     alloc: Global,
     syntax: &Syntax,
-    depth: u32,
+    depth: Levels,
     bound: usize,
     line: u32,
     names: &[Token],
@@ -1341,7 +1362,7 @@ fn turn(
 ) -> Result<(), Refusal>
     requires within { bound ≤ length syntax.now.nodes }
     requires body { AreLower bound body.now }
-    ensures { Gives result machine.new (turn line (texts syntax.now names.now) (block_run syntax.now depth body.now) value machine.old) }
+    ensures { Gives result machine.new (turn line (texts syntax.now names.now) (block_run syntax.now depth.classes body.now) value machine.old) }
 {
     machine.spend(line, 1)?;
     names_bound(machine, alloc, syntax, line, names, value)?;
@@ -1355,7 +1376,7 @@ fn turns(
     machine: &mut Machine,
     alloc: Global,
     syntax: &Syntax,
-    depth: u32,
+    depth: Levels,
     bound: usize,
     line: u32,
     names: &[Token],
@@ -1364,7 +1385,7 @@ fn turns(
 ) -> Result<(), Refusal>
     requires within { bound ≤ length syntax.now.nodes }
     requires body { AreLower bound body.now }
-    ensures { Gives result machine.new (turns line (texts syntax.now names.now) (block_run syntax.now depth body.now) items.now machine.old) }
+    ensures { Gives result machine.new (turns line (texts syntax.now names.now) (block_run syntax.now depth.classes body.now) items.now machine.old) }
 {
     for item in items {
         turn(
@@ -1381,7 +1402,7 @@ fn loop_run(
     machine: &mut Machine,
     alloc: Global,
     syntax: &Syntax,
-    depth: u32,
+    depth: Levels,
     bound: usize,
     line: u32,
     names: &[Token],
@@ -1390,7 +1411,7 @@ fn loop_run(
 ) -> Result<(), Refusal>
     requires within { bound ≤ length syntax.now.nodes }
     requires body { AreLower bound body.now }
-    ensures { Gives result machine.new (loop_run line (texts syntax.now names.now) (block_run syntax.now depth body.now) source machine.old) }
+    ensures { Gives result machine.new (loop_run line (texts syntax.now names.now) (block_run syntax.now depth.classes body.now) source machine.old) }
 {
     let items = machine.items_of(alloc, line, source)?;
     turns(
@@ -1415,14 +1436,14 @@ fn body_run(
     machine: &mut Machine,
     alloc: Global,
     syntax: &Syntax,
-    depth: u32,
+    depth: Levels,
     at: usize,
     class: &ClassForm,
     values: &List<Option<Value>>,
     this: Value,
 ) -> Result<(), Refusal>
     requires { IsLowerClass (length syntax.now.nodes) class.now }
-    ensures { Gives result machine.new (body_run (makes syntax.now depth) at (class_of syntax.now class.now) values.now this machine.old) }
+    ensures { Gives result machine.new (body_run (makes syntax.now depth.classes) at (class_of syntax.now class.now) values.now this machine.old) }
 {
     let line = class.init_line;
     machine.set_param(line, b"self", this)?;
@@ -1444,14 +1465,14 @@ pub fn module_run(
     machine: &mut Machine,
     alloc: Global,
     syntax: &Syntax,
-    depth: u32,
+    depth: Levels,
     line: u32,
     at: usize,
     class: &ClassForm,
     values: &List<Option<Value>>,
 ) -> Result<Value, Refusal>
     requires { IsLowerClass (length syntax.now.nodes) class.now }
-    ensures { Gives result machine.new (module_run (makes syntax.now depth) line at (class_of syntax.now class.now) values.now machine.old) }
+    ensures { Gives result machine.new (module_run (makes syntax.now depth.classes) line at (class_of syntax.now class.now) values.now machine.old) }
 {
     let (made, object) = module_begun(machine, alloc, line, at)?;
     let frame = machine.enter(alloc, Some(made), at);
@@ -1476,19 +1497,23 @@ fn make(
     machine: &mut Machine,
     alloc: Global,
     syntax: &Syntax,
-    depth: u32,
+    depth: Levels,
     line: u32,
     at: usize,
     args: &Arguments,
 ) -> Result<Value, Refusal>
-    ensures { Gives result machine.new (makes syntax.now depth line at args.now machine.old) }
+    ensures { Gives result machine.new (makes syntax.now depth.classes line at args.now machine.old) }
 {
     let Some(class) = class_at(syntax, at) else {
         return Err(fault(line, Kind::WrongKind));
     };
     let values = class_bound(machine, alloc, syntax, line, class, args)?;
-    if depth == 0 {
+    if depth.classes == 0 {
         return Err(limit(line, LimitKind::Depth));
     }
-    module_run(machine, alloc, syntax, depth - 1, line, at, class, &values)
+    let depth = Levels {
+        classes: depth.classes - 1,
+        nested: depth.nested,
+    };
+    module_run(machine, alloc, syntax, depth, line, at, class, &values)
 }

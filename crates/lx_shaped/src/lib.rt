@@ -4,7 +4,6 @@
 
 pub mod laws;
 mod outcome;
-mod parts;
 mod shaped;
 mod sizes;
 mod standing;

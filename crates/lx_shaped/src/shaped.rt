@@ -13,7 +13,6 @@ ghost use Rattle.lx_shaped.specs.Making as making;
 ghost use Rattle.lx_shaped.specs.Making.{expr_shape, make_expr, make_memory, make_signal, make_stmt, make_target, shape_made, shape_there, stmt_in, target_in, target_width};
 
 use crate::outcome::Outcome;
-use crate::parts::{is_memory, is_signal};
 use crate::sizes::{most_of_bits, narrow, sum_of_bits};
 use crate::standing::{has_parts, names_there, stmt_stands, takes_operands};
 use lx_arena::Node;
@@ -22,6 +21,7 @@ use lx_fhdl::{
     Target, TargetId,
 };
 use lx_num::Shape;
+use lx_parts::{is_memory, is_signal};
 use lx_text::{List, NoMemory};
 use lx_width::node_shape;
 use std::alloc::Global;

@@ -8,8 +8,10 @@ use Rattle.lx_shaped.specs.Making.{make_expr, make_target}
 use Rattle.lx_state.specs.Lists.{array_of, deeper, int_of, items_made, items_of, keep_items, list_made, list_of, text_made, text_of, tuple_made}
 use Rattle.lx_objects.specs.Exprs.{expr_made, put_expr, put_target}
 use Rattle.lx_objects.specs.Statements.{assign_made, keep_made, node_sum, only}
-use Rattle.lx_state.specs.Work.{spend, spend_nodes, within}
-use Rattle.lx_objects.specs.Modules.{add_modules, attribute}
+use Rattle.lx_state.specs.Naming.{bind_items, bind_list, bind_name, bind_value, bind_within, mark, name_object}
+use Rattle.lx_state.specs.Work.{name_fits, spend, spend_nodes, within}
+use Rattle.lx_objects.specs.Ios.{ios_of, signal_of, signals_of}
+use Rattle.lx_objects.specs.Modules.{add_bound, add_modules, attribute, bind_attribute, change_module, set_attribute}
 use Rattle.lx_ops.specs.Attributes.{attribute_of, module_attribute}
 use Rattle.lx_ops.specs.Places.{add_at, bind_at, holder_of}
 use Rattle.lx_ops.specs.Binary.{binary, copies, list_repeated, lists_joined, node_made, number_made, only_where, texts_joined, tuples_joined}
@@ -95,4 +97,16 @@ returns-clause-attributes c = record {
   domain_is_bound = refl;
   fragment_is_bound = refl;
   signal_is_added = refl;
+}
+
+pub returns-clause-ports : goal.returns-clause-ports
+unfolding bind_at list_of ios_of signals_of signal_of set_attribute add_bound bind_attribute change_module name_fits within bind_items bind_list bind_name bind_value bind_within mark name_object
+returns-clause-ports c = record {
+  signals = refl;
+  an_integer = refl;
+  an_integer_among = refl;
+  a_tuple = refl;
+  added = refl;
+  another_name = refl;
+  another_module = refl;
 }

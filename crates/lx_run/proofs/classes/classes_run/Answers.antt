@@ -8,10 +8,10 @@ use Rattle.lx_run.proofs.classes.classes_run.Goals as goal
 
 pub returns-in_err-class_run : goal.returns-in_err-class_run
 returns-in_err-class_run c =
-    let stop = classes_stop c.in_err-class_run.field-0.0 (makes c.args.syntax.now c.args.depth) (class_of c.args.syntax.now) c.args.syntax.now.classes c.loop-place.place c.class_in-class.result.now _ c.loop-place.machine c.class_in-class.ensures.class (ap (λ (n : ℕ). nat_eq (c.loop-place.place + 1) n) c.class_count-count.ensures) c.in_err-class_run.ensures in
-    let whole : Stops c.in_err-class_run.field-0.0 (classes_run (makes c.args.syntax.now c.args.depth) (classes_of c.args.syntax.now) c.args.machine.now) = subst (λ o. Stops c.in_err-class_run.field-0.0 o) c.loop-place.invariant stop in
+    let stop = classes_stop c.in_err-class_run.field-0.0 (makes c.args.syntax.now c.args.depth.classes) (class_of c.args.syntax.now) c.args.syntax.now.classes c.loop-place.place c.class_in-class.result.now _ c.loop-place.machine c.class_in-class.ensures.class (ap (λ (n : ℕ). nat_eq (c.loop-place.place + 1) n) c.class_count-count.ensures) c.in_err-class_run.ensures in
+    let whole : Stops c.in_err-class_run.field-0.0 (classes_run (makes c.args.syntax.now c.args.depth.classes) (classes_of c.args.syntax.now) c.args.machine.now) = subst (λ o. Stops c.in_err-class_run.field-0.0 o) c.loop-place.invariant stop in
     search (rules, whole)
 
 pub loop-place-preserved : goal.loop-place-preserved
 loop-place-preserved c =
-    sym (classes_next (makes c.args.syntax.now c.args.depth) (class_of c.args.syntax.now) c.args.syntax.now.classes c.loop-place.place c.class_in-class.result.now _ c.in_ok-class_run.field-0 c.loop-place.machine c.class_run.new.machine c.class_in-class.ensures.class (ap (λ (n : ℕ). nat_eq (c.loop-place.place + 1) n) c.class_count-count.ensures) c.in_ok-class_run.ensures) ∙ c.loop-place.invariant
+    sym (classes_next (makes c.args.syntax.now c.args.depth.classes) (class_of c.args.syntax.now) c.args.syntax.now.classes c.loop-place.place c.class_in-class.result.now _ c.in_ok-class_run.field-0 c.loop-place.machine c.class_run.new.machine c.class_in-class.ensures.class (ap (λ (n : ℕ). nat_eq (c.loop-place.place + 1) n) c.class_count-count.ensures) c.in_ok-class_run.ensures) ∙ c.loop-place.invariant

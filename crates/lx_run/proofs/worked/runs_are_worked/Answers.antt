@@ -16,14 +16,14 @@ use Rattle.lx_builtins.specs.Arguments.{bound_to, unnamed}
 use Rattle.lx_builtins.specs.Calls.{builtin_called}
 use Rattle.lx_builtins.specs.Numbers.{counts, max_called}
 use Rattle.lx_run.specs.Calls.{called}
-use Rattle.lx_run.specs.Classes.{bases_run, body_run, class_called, class_defaults, class_kind, class_run, classes_run, default_run, defaults_run, description_run, keep_class, make_within, module_begun, module_object, module_run, param_bound, param_value, params_bound, params_fit, top_made}
+use Rattle.lx_run.specs.Classes.{bases_run, body_run, class_called, class_defaults, class_kind, class_run, classes_run, default_run, defaults_run, description_run, keep_class, keep_defaults, make_within, module_begun, module_object, module_run, param_bound, param_value, params_bound, params_fit, top_made}
 use Rattle.lx_run.specs.Loops.{items_bound, name_hidden, names_bound, names_hidden, names_restored, names_set}
 use Rattle.lx_run.specs.Running.{arguments_run, attribute_sum, base_run, bound_run, branched, call_run, chosen, comprehended, entries, entry_run, eval, evals, exec, execs, first_that, fragment_added, gathered, held_run, held_value, hold, item_run, kept, link_run, linked, loop_run, name_added, named_run, object_added, place_added, place_bound, placed_run, run_alone, slice_run, starred_run, tested, trailed, turn, turn_gathered, turns, value_added, weighed}
 use Rattle.lx_run.specs.Signs.{all_applied, all_negated, all_signed, comparison_of, python_op, sign_of}
 use Rattle.lx_run.proofs.worked.runs_are_worked.Goals as goal
 
 pub returns-clause-expressions : goal.returns-clause-expressions
-unfolding name_hidden python_value bounds_of is_wrong_count builtin_name builtin_of builtins enter hide leave named nearest put_local restore set_local set_param deeper int_of ints_of items_made items_of keep_items list_made text_made tuple_made bind_items bind_list bind_name bind_value bind_within mark name_object object_made name_fits spend within keep_module module_made one_more attribute_of module_attribute binary number_made negated prefixed truth item_of listed add_at bind_at holder_of read_at bound_to unnamed builtin_called counts max_called called bases_run body_run class_called class_defaults class_kind class_run classes_run default_run defaults_run description_run keep_class make_within module_begun module_object module_run param_bound param_value params_bound params_fit top_made items_bound names_bound names_hidden names_restored names_set arguments_run attribute_sum base_run bound_run branched call_run chosen comprehended entries entry_run eval evals exec execs first_that fragment_added gathered held_run held_value hold item_run kept link_run linked loop_run name_added named_run object_added place_added place_bound placed_run run_alone slice_run starred_run tested trailed turn turn_gathered turns value_added weighed all_applied all_negated all_signed comparison_of python_op sign_of
+unfolding name_hidden python_value bounds_of is_wrong_count builtin_name builtin_of builtins enter hide leave named nearest put_local restore set_local set_param deeper int_of ints_of items_made items_of keep_items list_made text_made tuple_made bind_items bind_list bind_name bind_value bind_within mark name_object object_made name_fits spend within keep_module module_made one_more attribute_of module_attribute binary number_made negated prefixed truth item_of listed add_at bind_at holder_of read_at bound_to unnamed builtin_called counts max_called called bases_run body_run class_called class_defaults class_kind class_run classes_run default_run defaults_run description_run keep_class keep_defaults make_within module_begun module_object module_run param_bound param_value params_bound params_fit top_made items_bound names_bound names_hidden names_restored names_set arguments_run attribute_sum base_run bound_run branched call_run chosen comprehended entries entry_run eval evals exec execs first_that fragment_added gathered held_run held_value hold item_run kept link_run linked loop_run name_added named_run object_added place_added place_bound placed_run run_alone slice_run starred_run tested trailed turn turn_gathered turns value_added weighed all_applied all_negated all_signed comparison_of python_op sign_of
 returns-clause-expressions c = record {
   first_true = refl;
   first_false = refl;
@@ -45,7 +45,7 @@ returns-clause-expressions c = record {
 }
 
 pub returns-clause-statements : goal.returns-clause-statements
-unfolding name_hidden python_value bounds_of is_wrong_count builtin_name builtin_of builtins enter hide leave named nearest put_local restore set_local set_param deeper int_of ints_of items_made items_of keep_items list_made text_made tuple_made bind_items bind_list bind_name bind_value bind_within mark name_object object_made name_fits spend within keep_module module_made one_more attribute_of module_attribute binary number_made negated prefixed truth item_of listed add_at bind_at holder_of read_at bound_to unnamed builtin_called counts max_called called bases_run body_run class_called class_defaults class_kind class_run classes_run default_run defaults_run description_run keep_class make_within module_begun module_object module_run param_bound param_value params_bound params_fit top_made items_bound names_bound names_hidden names_restored names_set arguments_run attribute_sum base_run bound_run branched call_run chosen comprehended entries entry_run eval evals exec execs first_that fragment_added gathered held_run held_value hold item_run kept link_run linked loop_run name_added named_run object_added place_added place_bound placed_run run_alone slice_run starred_run tested trailed turn turn_gathered turns value_added weighed all_applied all_negated all_signed comparison_of python_op sign_of
+unfolding name_hidden python_value bounds_of is_wrong_count builtin_name builtin_of builtins enter hide leave named nearest put_local restore set_local set_param deeper int_of ints_of items_made items_of keep_items list_made text_made tuple_made bind_items bind_list bind_name bind_value bind_within mark name_object object_made name_fits spend within keep_module module_made one_more attribute_of module_attribute binary number_made negated prefixed truth item_of listed add_at bind_at holder_of read_at bound_to unnamed builtin_called counts max_called called bases_run body_run class_called class_defaults class_kind class_run classes_run default_run defaults_run description_run keep_class keep_defaults make_within module_begun module_object module_run param_bound param_value params_bound params_fit top_made items_bound names_bound names_hidden names_restored names_set arguments_run attribute_sum base_run bound_run branched call_run chosen comprehended entries entry_run eval evals exec execs first_that fragment_added gathered held_run held_value hold item_run kept link_run linked loop_run name_added named_run object_added place_added place_bound placed_run run_alone slice_run starred_run tested trailed turn turn_gathered turns value_added weighed all_applied all_negated all_signed comparison_of python_op sign_of
 returns-clause-statements c = record {
   value_first = refl;
   object_first = refl;
@@ -60,7 +60,7 @@ returns-clause-statements c = record {
 }
 
 pub returns-clause-classes : goal.returns-clause-classes
-unfolding name_hidden python_value bounds_of is_wrong_count builtin_name builtin_of builtins enter hide leave named nearest put_local restore set_local set_param deeper int_of ints_of items_made items_of keep_items list_made text_made tuple_made bind_items bind_list bind_name bind_value bind_within mark name_object object_made name_fits spend within keep_module module_made one_more attribute_of module_attribute binary number_made negated prefixed truth item_of listed add_at bind_at holder_of read_at bound_to unnamed builtin_called counts max_called called bases_run body_run class_called class_defaults class_kind class_run classes_run default_run defaults_run description_run keep_class make_within module_begun module_object module_run param_bound param_value params_bound params_fit top_made items_bound names_bound names_hidden names_restored names_set arguments_run attribute_sum base_run bound_run branched call_run chosen comprehended entries entry_run eval evals exec execs first_that fragment_added gathered held_run held_value hold item_run kept link_run linked loop_run name_added named_run object_added place_added place_bound placed_run run_alone slice_run starred_run tested trailed turn turn_gathered turns value_added weighed all_applied all_negated all_signed comparison_of python_op sign_of
+unfolding name_hidden python_value bounds_of is_wrong_count builtin_name builtin_of builtins enter hide leave named nearest put_local restore set_local set_param deeper int_of ints_of items_made items_of keep_items list_made text_made tuple_made bind_items bind_list bind_name bind_value bind_within mark name_object object_made name_fits spend within keep_module module_made one_more attribute_of module_attribute binary number_made negated prefixed truth item_of listed add_at bind_at holder_of read_at bound_to unnamed builtin_called counts max_called called bases_run body_run class_called class_defaults class_kind class_run classes_run default_run defaults_run description_run keep_class keep_defaults make_within module_begun module_object module_run param_bound param_value params_bound params_fit top_made items_bound names_bound names_hidden names_restored names_set arguments_run attribute_sum base_run bound_run branched call_run chosen comprehended entries entry_run eval evals exec execs first_that fragment_added gathered held_run held_value hold item_run kept link_run linked loop_run name_added named_run object_added place_added place_bound placed_run run_alone slice_run starred_run tested trailed turn turn_gathered turns value_added weighed all_applied all_negated all_signed comparison_of python_op sign_of
 returns-clause-classes c = record {
   plain = refl;
   lite = refl;

@@ -1,0 +1,13 @@
+-- What is answered for descriptions whose designs are tested.
+use Rattle.std.proofs.Common.{refl}
+use Rattle.lx_arena.specs.Folds.{fold_at}
+use Rattle.lx_fhdl.specs.Trees.{term_at}
+use Rattle.lx_fhdl.specs.Stmts.{target_at, stmt_at}
+use Rattle.lx_fhdl.specs.Designs.{circuit_of}
+use Rattle.lx_fhdl.specs.Kept.{is_kept}
+use Rattle.lx_description.specs.Instance.{and_design}
+use Rattle.lx_elab.specs.Worked.{AreTested}
+
+pub tested : AreTested
+unfolding and_design circuit_of fold_at term_at target_at stmt_at is_kept
+tested = record { kept_as_it_is = refl; not_built = refl }

@@ -1,0 +1,4 @@
+pub mod Depths
+pub mod Drivers
+pub mod Given
+pub mod Tables
