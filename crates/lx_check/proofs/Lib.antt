@@ -1,0 +1,11 @@
+pub mod Addresses
+pub mod Checking
+pub mod Faulting
+pub mod Graphing
+pub mod Marking
+pub mod Ordering
+pub mod Reaching
+pub mod Roles
+pub mod Rows
+pub mod Sound
+pub mod Telling

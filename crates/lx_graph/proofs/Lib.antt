@@ -1,0 +1,9 @@
+pub mod Rows
+pub mod Orders
+pub mod Searching
+pub mod Readers
+pub mod Ways
+pub mod Waves
+pub mod Ahead
+pub mod Back
+pub mod Worked

@@ -1,0 +1,10 @@
+pub mod Apart
+pub mod Fit
+pub mod Free
+pub mod Given
+pub mod Joining
+pub mod Marked
+pub mod Ports
+pub mod Spelling
+pub mod Table
+pub mod Wishes

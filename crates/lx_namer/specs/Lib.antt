@@ -1,0 +1,7 @@
+pub mod Answers
+pub mod Base
+pub mod Giving
+pub mod Marks
+pub mod Names
+pub mod Taken
+pub mod Worked

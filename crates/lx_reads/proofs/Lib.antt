@@ -1,0 +1,11 @@
+pub mod Adding
+pub mod Bools
+pub mod Driven
+pub mod Drivings
+pub mod Going
+pub mod Hits
+pub mod Items
+pub mod Nets
+pub mod Rows
+pub mod Statements
+pub mod Wholes

@@ -1,0 +1,5 @@
+pub mod Drivings
+pub mod Net
+pub mod Targets
+pub mod Walks
+pub mod Whole
