@@ -1,4 +1,3 @@
-pub mod Classes
 pub mod Deliveries
 pub mod Edges
 pub mod LineLemmas

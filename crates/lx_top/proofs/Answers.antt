@@ -1,34 +1,53 @@
 -- From the same files a command goes on in one way.
-use Rattle.std.proofs.Common.{◌≡◌, ℕ, List, [], ◌∷◌, Result, Ok, Err, refl, subst, map, true, inl, inr}
+use Rattle.std.proofs.Common.{◌≡◌, ℕ, List, [], ◌∷◌, Result, Ok, Err, refl, subst, map, inl, inr}
 use Rattle.lx_text.specs.declared.faults.Fault.{Fault}
 use Rattle.lx_token.specs.declared.tokens.Token.{Token}
 use Rattle.lx_grammar.specs.Derives.{Tree, IsTreeOf}
 use Rattle.lx_grammar.specs.Signs.{item_of}
 use Rattle.lx_grammar.proofs.Guided.{one_tree}
-use Rattle.lx_form.specs.declared.file.File.{File}
+use Rattle.lx_syntax.specs.Classes.{classes}
+use Rattle.lx_description.specs.declared.description.Description.{Description}
+use Rattle.lx_elab.specs.Elaboration.{elaborated}
+use Rattle.lx_translate.proofs.Faultless.{no_fault_of}
 use Rattle.lx_command.specs.Commands.{Build, Map, Sim, Poke, Gen}
-use Rattle.lx_command.specs.Judging.{IsReadable, HasTextFault, has_class}
-use Rattle.lx_top.specs.Meaning.{Meaning, Built}
+use Rattle.lx_command.specs.Judging.{HasTree, HasTextFault}
+use Rattle.lx_top.specs.Meaning.{Says, IsBuilt, IsRefusedFor, Meaning, Built}
 use Rattle.lx_command.specs.Next.{Next, Then, SameNext}
 use Rattle.lx_top.specs.Table.{IsOneAnswerLaw}
 
--- a readable text has no fault
-no_text_fault : (bytes : List ℕ) (f : Fault) → IsReadable bytes → HasTextFault bytes f → ⊥
-no_text_fault bytes f r (inl e) = let cut = r.has.cut in cc
-no_text_fault bytes f r (inr (inl e)) =
-    let same : r.has.tokens ≡ e.tokens = (let cut = r.has.cut in let other = e.cut in cc) in
-    e.none r.tree (subst (λ (ts : List Token). IsTreeOf (map (item_of bytes) ts) r.tree) same r.has.derived)
-no_text_fault bytes f r (inr (inr e)) =
-    let same : r.has.tokens ≡ e.has.tokens = (let cut = r.has.cut in let other = e.has.cut in cc) in
-    let tree : r.tree ≡ e.tree = one_tree (map (item_of bytes) e.has.tokens) r.tree e.tree (subst (λ (ts : List Token). IsTreeOf (map (item_of bytes) ts) r.tree) same r.has.derived) e.has.derived in
-    let some : has_class e.tree ≡ true = subst (λ (t : Tree). has_class t ≡ true) tree r.class in
-    let none = e.none in
+-- a text has one tree
+same_tree : (bytes : List ℕ) (t u : Tree) → HasTree bytes t → HasTree bytes u → t ≡ u
+same_tree bytes t u p q =
+    let same : p.tokens ≡ q.tokens = (let cut = p.cut in let other = q.cut in cc) in
+    one_tree (map (item_of bytes) q.tokens) t u (subst (λ (ts : List Token). IsTreeOf (map (item_of bytes) ts) t) same p.derived) q.derived
+
+-- a text with a tree has no fault
+no_text_fault : (bytes : List ℕ) (t : Tree) (f : Fault) → HasTree bytes t → HasTextFault bytes f → ⊥
+no_text_fault bytes t f h (inl e) = let cut = h.cut in cc
+no_text_fault bytes t f h (inr e) =
+    let same : h.tokens ≡ e.tokens = (let cut = h.cut in let other = e.cut in cc) in
+    e.none t (subst (λ (ts : List Token). IsTreeOf (map (item_of bytes) ts) t) same h.derived)
+
+-- a text says one thing
+says_one : (bytes : List ℕ) (r s : Result Description Fault) → Says bytes r → Says bytes s → r ≡ s
+says_one bytes r s p q =
+    let said : elaborated (classes bytes q.tree) ≡ r = subst (λ (t : Tree). elaborated (classes bytes t) ≡ r) (same_tree bytes p.tree q.tree p.has q.has) p.says in
+    let other = q.says in
     cc
 
+-- a description that is built isn't refused
+not_refused : (d : Description) (f : Fault) → IsBuilt d → IsRefusedFor d f → ⊥
+not_refused d f b (inl r) = let plain = b.0 in let not_plain = r.0 in cc
+not_refused d f b (inr r) = no_fault_of d.design f b.1 r.1
+
 -- bytes that mean a description have no fault
-no_fault : (bytes : List ℕ) (x : File) (f : Fault) → Meaning bytes (Ok x) → Meaning bytes (Err f) → ⊥
-no_fault bytes x f m (inl e) = no_text_fault bytes f m.0 e
-no_fault bytes x f m (inr e) = e.no_form x m.1
+no_fault : (bytes : List ℕ) (x : Description) (f : Fault) → Meaning bytes (Ok x) → Meaning bytes (Err f) → ⊥
+no_fault bytes x f m (inl e) = no_text_fault bytes m.0.tree f m.0.has e
+no_fault bytes x f m (inr (inl e)) = let q = says_one bytes (Ok x) (Err f) m.0 e in cc
+no_fault bytes x f m (inr (inr e)) =
+    let q = says_one bytes (Ok x) (Ok e.0) m.0 e.1 in
+    let same : e.0 ≡ x = cc in
+    not_refused x f m.1 (subst (λ (d : Description). IsRefusedFor d f) same e.2)
 
 -- where a meaning is no fault and goes on in one way, so does the chain
 same_then : {A : Type 0} (file : List ℕ) (M : Result A Fault → Type 0) (on : A → Next → Type 0) (n m : Next) → ((x : A) (f : Fault) → M (Ok x) → M (Err f) → ⊥)
@@ -38,7 +57,7 @@ same_then file M on n m one same (inl p) (inr q) = absurd (one q.0 p.0 q.1 p.1)
 same_then file M on n m one same (inr p) (inl q) = absurd (one p.0 q.0 p.1 q.1)
 same_then file M on n m one same (inr p) (inr q) = same p.0 q.0 p.1 q.1 p.2 q.2
 
-both_built : (x y : File) (n m : Next) → Built x n → Built y m → SameNext n m
+both_built : (x y : Description) (n m : Next) → Built x n → Built y m → SameNext n m
 both_built x y n m p q = rw (p.2, q.2) tt
 
 pub one_answer : IsOneAnswerLaw

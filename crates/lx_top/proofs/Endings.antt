@@ -1,6 +1,8 @@
 -- A run's end, from what its parts did.
-use Rattle.std.proofs.Common.{◌≡◌, ℕ, ◌≤◌, List, [], ◌∷◌, Option, Some, Result, Ok, Err, refl, sym, ap, subst, length, codes, inl, inr, ◌⊎◌}
+use Rattle.std.proofs.Common.{◌≡◌, ℕ, ◌≤◌, List, [], ◌∷◌, Option, Some, Result, Ok, Err, refl, sym, ap, subst, length, codes, true, inl, inr, ◌⊎◌}
 use Rattle.lx_text.specs.declared.faults.Fault.{Fault}
+use Rattle.lx_text.specs.declared.faults.Refusal.{Refusal}
+use Rattle.lx_text.specs.declared.faults.Refusal.TheVariants as refusal
 use Rattle.lx_text.specs.Limits.{max_bytes}
 use Rattle.lx_outside.specs.declared.calls.Pair.{Pair}
 use Rattle.lx_outside.specs.Calls.{Rose}
@@ -12,17 +14,22 @@ use Rattle.lx_command.specs.declared.texts.Texts.{Texts}
 use Rattle.lx_command.specs.Commands.{Asked, Build, Map, Sim, Poke, Gen}
 use Rattle.lx_command.specs.Delivery.{Delivers}
 use Rattle.lx_command.specs.Fetching.{Fetched, IsNotBuilt, IsReport}
-use Rattle.lx_command.specs.Judging.{IsReadable, HasTextFault}
+use Rattle.lx_command.specs.Judging.{IsTreeOfText, Judges}
 use Rattle.lx_command.specs.Lines.{build_files, summary_text, no_memory_line, not_built}
 use Rattle.lx_command.specs.Next.{Next, Wants, Refuses, Gives, Then}
 use Rattle.lx_command.specs.World.{World, Has, LacksFile, IsLongFile, IsUntouched, Tells}
-use Rattle.lx_form.specs.declared.file.File.{File}
-use Rattle.lx_form.specs.Form.{Says, HasNoForm}
-use Rattle.lx_translate.specs.Translation.{IsTextOf}
-use Rattle.lx_top.specs.Meaning.{Meaning, Built}
+use Rattle.lx_pytree.specs.declared.tree.Tree.{Tree}
+use Rattle.lx_pytree.specs.Reading.{tree_of}
+use Rattle.lx_syntax.specs.Classes.{classes}
+use Rattle.lx_description.specs.declared.description.Description.{Description}
+use Rattle.lx_description.specs.PlainModule.{is_plain}
+use Rattle.lx_describe.specs.Answers.{Answers}
+use Rattle.lx_elab.specs.Elaboration.{elaborated}
+use Rattle.lx_translate.specs.Translation.{Translates}
+use Rattle.lx_top.specs.Meaning.{Says, Meaning, Built}
 use Rattle.lx_top.specs.Table.{Step}
 use Rattle.lx_top.specs.Outcome.{Comes, EndsBy}
-use Rattle.lx_top.specs.Making.{Describes, Makes}
+use Rattle.lx_top.specs.Making.{Builds, Describes, DescribesFile, Makes}
 
 -- a build wants its description
 wants : (told : Option (List Pair)) (source : List ℕ) → Comes told (Build source) (Wants source max_bytes)
@@ -34,7 +41,7 @@ behind told source bytes n has short step =
     record { had = bytes ∷ []; reached = (tt, record { name = source; limit = max_bytes; wanted = refl; loaded = has; short = short }); step = step }
 
 -- the texts of what was fetched, or why it has none
-pub makes_from : (told : Option (List Pair)) (source bytes : List ℕ) (before now : ℕ) (r : Result Texts Stop) → Has told source bytes → length bytes ≤ max_bytes → Describes source bytes r → Makes (Build source) told before now r
+pub makes_from : (told : Option (List Pair)) (source bytes : List ℕ) (before now : ℕ) (r : Result Texts Stop) → Has told source bytes → length bytes ≤ max_bytes → DescribesFile source bytes r → Makes (Build source) told before now r
 makes_from told source bytes before now (Ok t) has short d = behind told source bytes (Gives t.files t.text) has short d
 makes_from told source bytes before now (Err (stop.Read file)) has short d = absurd d
 makes_from told source bytes before now (Err (stop.Fault file f)) has short d = inl (behind told source bytes (Refuses file.now f) has short d)
@@ -79,17 +86,37 @@ ends_reported words c a b x s line e made report untouched told = subst (λ (w :
 
 -- ---- a description's texts
 
-pub tells_text : (name bytes : List ℕ) (f : Fault) → HasTextFault bytes f → Then name (Meaning bytes) Built (Refuses name f)
-tells_text name bytes f has = inl (f, inl has, refl)
+pub gives_file : (name bytes : List ℕ) (t : Texts) → Describes bytes (Ok t) → Then name (Meaning bytes) Built (Gives t.files t.text)
+gives_file name bytes t d = inr d
 
-pub tells_unbuilt : (name bytes : List ℕ) (f : Fault) → IsReadable bytes → HasNoForm bytes → f ≡ not_built → Then name (Meaning bytes) Built (Refuses name f)
-tells_unbuilt name bytes f readable none is = inl (f, inr (record { readable = readable; no_form = none; fault = is }), refl)
+pub refuses_file : (name bytes : List ℕ) (f : Fault) → Meaning bytes (Err f) → Then name (Meaning bytes) Built (Refuses name f)
+refuses_file name bytes f m = inl (f, m, refl)
 
-pub gives_built : (name bytes : List ℕ) (file : File) (files : List Pair) (text : List ℕ) → IsReadable bytes → Says bytes file → Built file (Gives files text) → Then name (Meaning bytes) Built (Gives files text)
-gives_built name bytes file files text readable says built = inr (file, (readable, says), built)
+-- a fault of the text
+pub text_fault : (bytes : List ℕ) (r : Refusal) → Judges bytes (Err r) → Describes bytes (Err r)
+text_fault bytes (refusal.Fault f) j = inl j
+text_fault bytes refusal.NoMemory j = tt
 
-pub built_from : (file : File) (made : List ℕ) (files : List Pair) (text : List ℕ) → IsTextOf file made → files ≡ build_files made → text ≡ summary_text file.top → Built file (Gives files text)
-built_from file made files text is same said = (files, (made, is, same), ap (Gives files) said)
+says_of : (bytes : List ℕ) (t : Tree) (r : Result Description Fault) → IsTreeOfText bytes t → elaborated (classes bytes (tree_of t)) ≡ r → Says bytes r
+says_of bytes t r has says = record { tree = tree_of t; has = has.has; says = says }
+
+-- a fault of what the text describes
+pub said_fault : (bytes : List ℕ) (t : Tree) (r : Refusal) → IsTreeOfText bytes t → Answers (Err r) (elaborated (classes bytes (tree_of t))) → Describes bytes (Err r)
+said_fault bytes t (refusal.Fault f) has a = inr (inl (says_of bytes t (Err f) has a))
+said_fault bytes t refusal.NoMemory has a = tt
+
+-- what is made of a description
+pub described : (bytes : List ℕ) (t : Tree) (d : Description) (r : Result Texts Refusal) → IsTreeOfText bytes t → Answers (Ok d) (elaborated (classes bytes (tree_of t))) → Builds d r → Describes bytes r
+described bytes t d (Ok x) has a b = (d, (says_of bytes t (Ok d) has a, b.0), b.1)
+described bytes t d (Err (refusal.Fault f)) has a b = inr (inr (d, says_of bytes t (Ok d) has a, b))
+described bytes t d (Err refusal.NoMemory) has a b = tt
+
+pub built_from : (d : Description) (made : List ℕ) (t : Texts) → is_plain d ≡ true → Translates d.design (Ok made) → t.files ≡ build_files made → t.text ≡ summary_text d.top → Builds d (Ok t)
+built_from d made t plain is same said = ((plain, is.0), (t.files, (made, is.1, same), ap (Gives t.files) said))
+
+pub not_translated : (d : Description) (r : Refusal) → is_plain d ≡ true → Translates d.design (Err r) → Builds d (Err r)
+not_translated d (refusal.Fault f) plain is = inr (plain, is)
+not_translated d refusal.NoMemory plain is = tt
 
 -- a command that isn't built
 unbuilt : (told : Option (List Pair)) (c : Asked) (word : List ℕ) (before now : ℕ) (s : Stop) → Step c [] (Refuses word not_built) → IsNotBuilt word s → Makes c told before now (Err s)

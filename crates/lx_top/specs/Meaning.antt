@@ -1,29 +1,40 @@
 -- What a description is, and the files that are made of it. No other file names either.
-use Rattle.std.specs.Prelude.{◌≡◌, ℕ, List, Result, Ok, Err, ◌⊎◌}
+use Rattle.std.specs.Prelude.{◌≡◌, ℕ, true, false, List, Result, Ok, Err, ◌⊎◌}
 use Rattle.lx_outside.specs.declared.calls.Pair.{Pair}
 use Rattle.lx_text.specs.declared.faults.Fault.{Fault}
-use Rattle.lx_form.specs.declared.file.File.{File}
-use Rattle.lx_form.specs.Form.{Says, HasNoForm}
-use Rattle.lx_translate.specs.Translation.{IsTextOf}
-use Rattle.lx_command.specs.Judging.{IsReadable, HasTextFault}
+use Rattle.lx_grammar.specs.Derives.{Tree}
+use Rattle.lx_syntax.specs.Classes.{classes}
+use Rattle.lx_description.specs.declared.description.Description.{Description}
+use Rattle.lx_description.specs.PlainModule.{is_plain}
+use Rattle.lx_elab.specs.Elaboration.{elaborated}
+use Rattle.lx_translate.specs.Translation.{IsFaultless, HasFault, IsTextOf}
+use Rattle.lx_command.specs.Judging.{HasTree, HasTextFault}
 use Rattle.lx_command.specs.Lines.{build_files, summary_text, not_built}
 use Rattle.lx_command.specs.Next.{Next, Gives}
 
--- a text without a fault that spells no description which is built yet
-pub record IsNotBuilt (bytes : List ℕ) (f : Fault) : Type 0 where
-  pub readable : IsReadable bytes
-  pub no_form : HasNoForm bytes
-  pub fault : f ≡ not_built
+-- the classes of the text's tree come to this description, or to this fault
+pub record Says (bytes : List ℕ) (r : Result Description Fault) : Type 0 where
+  pub tree : Tree
+  pub has : HasTree bytes tree
+  pub says : elaborated (classes bytes tree) ≡ r
 
--- the bytes mean this description, or this is their fault
-abbrev pub Meaning : List ℕ → Result File Fault → Type 0
-Meaning bytes (Ok file) = IsReadable bytes × Says bytes file
-Meaning bytes (Err f) = HasTextFault bytes f ⊎ IsNotBuilt bytes f
+-- a description that is built: of a plain module, whose circuit has no fault
+abbrev pub IsBuilt : Description → Type 0
+IsBuilt d = (is_plain d ≡ true) × IsFaultless d.design
+
+-- one that isn't: more than a plain module, or a circuit with this fault
+abbrev pub IsRefusedFor : Description → Fault → Type 0
+IsRefusedFor d f = ((is_plain d ≡ false) × (f ≡ not_built)) ⊎ ((is_plain d ≡ true) × HasFault d.design f)
+
+-- the bytes mean this description, or this is their first fault: of the text, of what it describes, of its circuit
+abbrev pub Meaning : List ℕ → Result Description Fault → Type 0
+Meaning bytes (Ok d) = Says bytes (Ok d) × IsBuilt d
+Meaning bytes (Err f) = HasTextFault bytes f ⊎ (Says bytes (Err f) ⊎ ((d : Description) × Says bytes (Ok d) × IsRefusedFor d f))
 
 -- the files of a description
-abbrev pub Files : File → List Pair → Type 0
-Files file files = (text : List ℕ) × IsTextOf file text × (files ≡ build_files text)
+abbrev pub Files : Description → List Pair → Type 0
+Files d files = (text : List ℕ) × IsTextOf d.design text × (files ≡ build_files text)
 
 -- its files are stored, and its summary is said
-abbrev pub Built : File → Next → Type 0
-Built file n = (files : List Pair) × Files file files × (n ≡ Gives files (summary_text file.top))
+abbrev pub Built : Description → Next → Type 0
+Built d n = (files : List Pair) × Files d files × (n ≡ Gives files (summary_text d.top))

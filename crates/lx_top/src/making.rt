@@ -1,21 +1,21 @@
 //! The texts of a command are made, before anything is stored.
 
-ghost use Rattle.std.specs.Prelude.{◌≡◌, ℕ, List, [], IsTrue, IfOk};
+ghost use Rattle.std.specs.Prelude.{◌≡◌, ℕ, List, []};
 ghost use Rattle.lx_text.specs.declared.faults.Fault.{Fault};
-ghost use Rattle.lx_form.specs.Form.{is_form};
+ghost use Rattle.lx_fhdl.specs.Keeping.{Keeps};
 ghost use Rattle.lx_command.specs.Commands.{Build, asked_of};
-ghost use Rattle.lx_command.specs.Next.{Refuses, Gives};
-ghost use Rattle.lx_top.specs.Making.{Describes, Makes};
-ghost use Rattle.lx_top.specs.Meaning.{Built};
+ghost use Rattle.lx_command.specs.Next.{Refuses};
+ghost use Rattle.lx_top.specs.Making.{Builds, Describes, DescribesFile, Makes};
 ghost use Rattle.lx_top.specs.Table.{Step};
 
 use lx_command::commands::Command;
 use lx_command::fetching::{Stop, fetch, not_built, whole};
 use lx_command::judging::judge;
 use lx_command::texts::{Texts, files_of, summary_of};
-use lx_form::{File, ReadError, read};
+use lx_description::{Description, is_plain};
+use lx_elab::elaborate;
 use lx_outside::Source;
-use lx_text::{Kind, NoMemory, Refusal};
+use lx_text::{Kind, Refusal};
 use lx_translate::top_v;
 use std::alloc::Global;
 
@@ -44,40 +44,44 @@ fn build<'a, S: Source>(alloc: Global, source: &'a [u8], src: &mut S) -> Result<
     ensures { Makes (Build source.now) (S.files src.old) (S.faults src.old) (S.faults src.new) result }
 {
     match fetch(alloc, source, src) {
-        Ok(bytes) => describe(alloc, source, bytes.as_slice()),
+        Ok(bytes) => describe_file(alloc, source, bytes.as_slice()),
         Err(stop) => Err(stop),
     }
 }
 
-// The texts of a description's bytes; or the fault of its text, or that its form is not built yet.
-#[tactic(auto, using(crate::proofs::Endings::tells_text, crate::proofs::Endings::tells_unbuilt, crate::proofs::Endings::gives_built))]
-fn describe<'a>(alloc: Global, name: &'a [u8], bytes: &[u8]) -> Result<Texts, Stop<'a>>
-    ensures { Describes name.now bytes.now result }
+// The texts of a file's bytes, or the fault of the file.
+#[tactic(auto, using(crate::proofs::Endings::gives_file, crate::proofs::Endings::refuses_file))]
+fn describe_file<'a>(alloc: Global, name: &'a [u8], bytes: &[u8]) -> Result<Texts, Stop<'a>>
+    ensures { DescribesFile name.now bytes.now result }
 {
-    match judge(alloc, bytes) {
-        Ok(()) => {}
-        Err(Refusal::Fault(fault)) => return Err(Stop::Fault(name, fault)),
-        Err(Refusal::NoMemory) => return Err(Stop::NoMemory),
-    }
-    let file = match read(alloc, bytes) {
-        Ok(file) => file,
-        Err(ReadError::NotYetBuilt) => return Err(Stop::Fault(name, whole(Kind::NotYetBuilt))),
-        Err(ReadError::NoMemory) => return Err(Stop::NoMemory),
-    };
-    match texts_of(alloc, &file) {
+    match describe(alloc, bytes) {
         Ok(texts) => Ok(texts),
-        Err(NoMemory) => Err(Stop::NoMemory),
+        Err(Refusal::Fault(fault)) => Err(Stop::Fault(name, fault)),
+        Err(Refusal::NoMemory) => Err(Stop::NoMemory),
     }
 }
 
-// The texts of a description.
-#[tactic(auto, using(crate::proofs::Endings::built_from))]
-fn texts_of(alloc: Global, file: &File) -> Result<Texts, NoMemory>
-    requires { IsTrue (is_form file.now) }
-    ensures { IfOk result (λ t. Built file.now (Gives t.files t.text)) }
+// The texts of a description's bytes; or the first fault of its text, of what it describes, or of its circuit.
+#[tactic(auto, using(crate::proofs::Endings::text_fault, crate::proofs::Endings::said_fault, crate::proofs::Endings::described))]
+fn describe(alloc: Global, bytes: &[u8]) -> Result<Texts, Refusal>
+    ensures { Describes bytes.now result }
 {
-    let text = top_v(alloc, file)?;
+    let tree = judge(alloc, bytes)?;
+    let description = elaborate(alloc, bytes, &tree)?;
+    texts_of(alloc, &description)
+}
+
+// The texts of a description; or the fault of its circuit, or that its parts are not built yet.
+#[tactic(auto, using(crate::proofs::Endings::built_from))]
+fn texts_of(alloc: Global, description: &Description) -> Result<Texts, Refusal>
+    requires { Keeps description.now.design }
+    ensures { Builds description.now result }
+{
+    if !is_plain(description) {
+        return Err(Refusal::Fault(whole(Kind::NotYetBuilt)));
+    }
+    let text = top_v(alloc, &description.design)?;
     let files = files_of(alloc, text)?;
-    let text = summary_of(alloc, file.top.as_bytes())?;
+    let text = summary_of(alloc, description.top.as_bytes())?;
     Ok(Texts { files, text })
 }

@@ -1,1 +1,1 @@
-pub mod Theorem
+pub mod Faultless

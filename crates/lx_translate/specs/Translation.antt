@@ -1,36 +1,37 @@
--- What the text of a description is.
-use Rattle.std.specs.Prelude.{◌≡◌, ℕ, List, IsTrue}
-use Rattle.lx_vtext.specs.Tree.{VModule}
+-- What the text of a circuit is, and which circuits have one.
+use Rattle.std.specs.Prelude.{◌≡◌, ℕ, List, Result, Ok, Err, ◌⊎◌}
+use Rattle.lx_text.specs.declared.faults.Fault.{Fault}
+use Rattle.lx_text.specs.declared.faults.Refusal.{Refusal}
+use Rattle.lx_text.specs.declared.faults.Refusal.TheVariants as refusal
+use Rattle.lx_vtext.specs.Tree.{Name, VModule}
 use Rattle.lx_vtext.specs.Printed.{module_text}
-use Rattle.lx_vtext.specs.Fits.{IsModule}
-use Rattle.lx_vmeaning.specs.Cycle.{HasCycleMeaning}
-use Rattle.lx_agree.specs.Agreement.{Agrees, HasPorts}
-use Rattle.lx_write.specs.Writes.{CanBeWritten, Writes}
-use Rattle.lx_form.specs.declared.file.File.{File}
-use Rattle.lx_form.specs.Form.{is_form}
-use Rattle.lx_designs.specs.FormCircuit.{circuit_of}
-use Rattle.lx_designs.specs.FormDesign.{design_of}
-use Rattle.lx_designs.specs.FormNames.{names_of, naming_of}
+use Rattle.lx_fhdl.specs.declared.design.Design.{Design}
+use Rattle.lx_check.specs.Checked.{IsSound, HasCheckFault}
+use Rattle.lx_namer.specs.Names.{names_of}
+use Rattle.lx_write.specs.Writes.{Writes}
 
--- A module gives what a description means: it has a text, which is no other module's, and a cycle meaning, its ports are the description's in their order,
--- and each signal has the number of its net after every list of steps.
-pub record IsModuleOf (f : File) (m : VModule) : Type 0 where
-  pub lawful : IsModule m
-  pub meaning : HasCycleMeaning m
-  pub ports : HasPorts (circuit_of f) (naming_of f) m
-  pub agrees : Agrees (circuit_of f) m (naming_of f)
+-- A circuit without a fault: one driver for each signal, an order of its reads, and a name for each net.
+pub record IsFaultless (d : Design) : Type 0 where
+  pub sound : IsSound d
+  pub names : List Name
+  pub named : names_of d ≡ Ok names
 
--- The text is that of a module which gives what the description means.
-pub record IsTextOf (f : File) (text : List ℕ) : Type 0 where
+-- its first fault: of drivers and cycles, else of names
+abbrev pub HasFault : Design → Fault → Type 0
+HasFault d f = HasCheckFault d f ⊎ (IsSound d × (names_of d ≡ Err f))
+
+-- The text is that of a module with the circuit's names, which gives what the circuit means: it has a text that is no other
+-- module's, a cycle meaning, and the circuit's ports; and after every list of steps, for all inputs that fit, each signal has
+-- the number of its net.
+pub record IsTextOf (d : Design) (text : List ℕ) : Type 0 where
+  pub names : List Name
+  pub named : names_of d ≡ Ok names
   pub tree : VModule
-  pub gives : IsModuleOf f tree
+  pub gives : Writes d names tree
   pub written : text ≡ module_text tree
 
--- The design of a description can be written, and a module that gives what the design means gives what the description means.
-pub record IsWrittenAsDesign (f : File) : Type 0 where
-  pub can : CanBeWritten (design_of f) (names_of f)
-  pub gives : (m : VModule) → Writes (design_of f) (names_of f) m → IsModuleOf f m
-
--- That of each description of the form is so.
-abbrev pub IsTranslationLaw : Type 0
-IsTranslationLaw = (f : File) → IsTrue (is_form f) → IsWrittenAsDesign f
+-- want of memory aside, a circuit has its text or its first fault
+abbrev pub Translates : Design → Result (List ℕ) Refusal → Type 0
+Translates d (Ok text) = IsFaultless d × IsTextOf d text
+Translates d (Err (refusal.Fault f)) = HasFault d f
+Translates d (Err refusal.NoMemory) = Unit {0}

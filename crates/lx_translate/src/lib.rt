@@ -1,8 +1,6 @@
-//! A description of the first form becomes a Verilog module that gives what it means.
+//! A circuit becomes the text of a Verilog module that gives what it means, or has a fault.
 #![tactic(auto)]
 
-pub mod laws;
 pub mod writing;
 
-pub use laws::translation_law;
 pub use writing::top_v;

@@ -1,24 +1,27 @@
-//! The text of the module of a description.
+//! The text of the module of a circuit.
 
-ghost use Rattle.std.specs.Prelude.{IfOk, IsTrue};
-ghost use Rattle.lx_form.specs.Form.{is_form};
-ghost use Rattle.lx_translate.specs.Translation.{IsTextOf};
+ghost use Rattle.std.specs.Prelude.{◌≡◌, []};
+ghost use Rattle.lx_fhdl.specs.Keeping.{Keeps};
+ghost use Rattle.lx_translate.specs.Translation.{Translates};
 
-use lx_designs::{design, names};
-use lx_form::File;
-use lx_text::{NoMemory, Text};
+use lx_check::check::check;
+use lx_fhdl::Design;
+use lx_namer::names::names;
+use lx_text::{Refusal, Text};
 use lx_vprint::print;
 use lx_write::write_module;
 use std::alloc::Global;
 
-/// The text of `top.v` for a description of the form (IEEE 1364-2005, "Modules").
-pub fn top_v(alloc: Global, file: &File) -> Result<Text, NoMemory>
-    requires { IsTrue (is_form file.now) }
-    ensures { IfOk result (λ text. IsTextOf file.now text) }
+/// The text of `top.v` for a circuit without ports of memories (IEEE 1364-2005, "Modules"); or the circuit's first fault: StorageDriven, TwoDrivers,
+/// MemoryClocks, CombLoop, NameTaken.
+pub fn top_v(alloc: Global, design: &Design) -> Result<Text, Refusal>
+    requires keeps { Keeps design.now }
+    requires plain { design.now.ports ≡ [] }
+    ensures { Translates design.now result }
 {
-    let design = design(alloc, file)?;
-    let names = names(alloc, file)?;
-    let module = write_module(alloc, &design, &names)?;
+    check(alloc, design)?;
+    let names = names(alloc, design)?;
+    let module = write_module(alloc, design, names.as_list())?;
     let text = print(alloc, &module)?;
     Ok(text)
 }

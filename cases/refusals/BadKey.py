@@ -1,0 +1,4 @@
+class A(Module):
+    def __init__(self):
+        self.a = Signal(4)
+        self.comb += Case(self.a, {0: [], 0: []})

@@ -1,0 +1,6 @@
+class A(Module):
+    def __init__(self):
+        self.a = Signal()
+        self.b = Signal()
+        self.comb += self.a.eq(self.b)
+        self.comb += self.b.eq(self.a)

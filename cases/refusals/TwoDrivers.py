@@ -1,0 +1,5 @@
+class A(Module):
+    def __init__(self):
+        self.a = Signal()
+        self.comb += self.a.eq(1)
+        self.sync += self.a.eq(0)

@@ -1,0 +1,3 @@
+class A(Module):
+    def __init__(self):
+        x = [1, 2, 3][1:]

@@ -1,0 +1,3 @@
+class A(Module):
+    def __init__(self):
+        x = 2**126 + 2**126

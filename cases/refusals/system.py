@@ -1,0 +1,2 @@
+class A(SoCCore):
+    def __init__(self): pass

@@ -1,0 +1,2 @@
+class A(Module):
+    def __init__(self, a=1, a=2): pass

@@ -1,0 +1,2 @@
+class A(Modul):
+    def __init__(self): pass

@@ -1,0 +1,150 @@
+"""Random descriptions of lawful circuits, for checks/descriptions: expressions and statements of each form, over signals
+of few and of many bits, in `comb` and in two clock domains. All signals are ports, so that all are compared.
+"""
+import random
+
+import fhdl
+
+WIDTHS = [1, 1, 2, 2, 3, 3, 4, 4, 5, 7, 8, 12, 16, 31, 32, 33, 63, 64]
+BINARY = ["+", "-", "*", "&", "|", "^", "==", "!=", "<", "<=", ">", ">="]
+MOST = 127
+
+
+class Sample:
+    """One description: its signals, and texts of expressions that are known to have a lawful shape."""
+
+    def __init__(self, seed):
+        self.chance = random.Random(seed)
+        self.shapes = {}
+        self.signals = {}
+
+    def signal(self, name):
+        bits, signed = self.chance.choice(WIDTHS), self.chance.random() < 0.4
+        reset = self.chance.choice([0, 1, -1, self.chance.getrandbits(bits)])
+        self.shapes[name] = f"({bits}, {signed})" if signed else str(bits)
+        self.signals[name] = fhdl.Signal((bits, signed), reset=reset)
+        less = ", reset_less=True" if self.chance.random() < 0.1 else ""
+        return f"self.{name} = Signal({self.shapes[name]}, reset={reset}{less})"
+
+    # ---- expressions, as texts
+
+    def value(self, text):
+        """The expression that a text is, or None where its shape has a fault."""
+        try:
+            e = fhdl.expr(eval(text, dict(fhdl.NAMES), {"self": self}))
+        except (IndexError, TypeError, ZeroDivisionError):
+            return None
+        return e if 1 <= e.bits <= MOST else None
+
+    def __getattr__(self, name):
+        return self.__dict__["signals"][name]
+
+    def integer(self):
+        return str(self.chance.choice([0, 1, 2, 3, 5, 7, 8, 15, 255, -1, -2, -8, self.chance.getrandbits(20)]))
+
+    def leaf(self, names):
+        chance = self.chance.random()
+        if chance < 0.75:
+            return f"self.{self.chance.choice(names)}"
+        if chance < 0.9:
+            return f"C({self.integer()}, ({self.chance.randint(1, 9)}, {self.chance.random() < 0.5}))"
+        return f"C({self.integer()})"
+
+    def expr(self, names, depth):
+        for _ in range(20):
+            text = self.form(names, depth)
+            e = self.value(text)
+            if e is not None and all(p.bits + 1 <= MOST for p in vars(e).values() if isinstance(p, fhdl.Expr)):
+                return text
+        return f"self.{names[0]}"
+
+    def unsigned(self, names, most):
+        """An unsigned expression of few bits."""
+        e = self.expr(names, 1)
+        bits = self.value(e).bits
+        return f"({e})[:{min(bits, self.chance.randint(1, most))}]"
+
+    def form(self, names, depth):
+        if depth == 0:
+            return self.leaf(names)
+        a, b = self.expr(names, depth - 1), self.expr(names, depth - 1)
+        kind = self.chance.randrange(14)
+        if kind < 6:
+            other = self.integer() if self.chance.random() < 0.2 else b
+            left, right = self.chance.choice([(a, other), (other, a)])
+            return f"(({left}) {self.chance.choice(BINARY)} ({right}))"
+        if kind == 6:
+            return f"({self.chance.choice('~-')}({a}))"
+        if kind == 7:
+            return f"(({a}) {self.chance.choice(['<<', '>>'])} {self.unsigned(names, 3)})"
+        if kind == 8:
+            return f"(({a}) >> {self.chance.choice([0, 1, 3, 64, 200])})"
+        if kind == 9:
+            return f"Mux({self.expr(names, depth - 1)}, {a}, {b})"
+        if kind == 10:
+            return f"Cat({', '.join(self.expr(names, depth - 1) for _ in range(self.chance.randint(1, 3)))})"
+        if kind == 11:
+            return f"Replicate({a}, {self.chance.randint(1, 4)})"
+        if kind == 12:
+            items = ", ".join([a, b, self.integer()][: self.chance.randint(1, 3)])
+            return f"Array([{items}])[{self.unsigned(names, 3)}]"
+        bits = self.value(a).bits
+        low = self.chance.randrange(bits)
+        return f"({a})" + self.chance.choice([f"[{low}]", f"[{low - bits}]", f"[{low}:]", f"[:{low + 1}]", f"[{low}:{bits + 2}]"])
+
+    # ---- statements, as texts
+
+    def target(self, own, names, depth=2):
+        chance = self.chance.random()
+        name = self.chance.choice(own)
+        if depth == 0 or chance < 0.5:
+            return f"self.{name}"
+        if chance < 0.75:
+            bits = self.signals[name].bits
+            low = self.chance.randrange(bits)
+            return f"self.{name}[{low}:{self.chance.randint(low + 1, bits)}]"
+        parts = [self.target(own, names, depth - 1) for _ in range(self.chance.randint(1, 3))]
+        text = f"Cat({', '.join(parts)})" if chance < 0.87 else f"Array([{', '.join(parts)}])[{self.unsigned(names, 2)}]"
+        e = self.value(text)
+        return text if e is not None and fhdl.target_bits(e) <= MOST else f"self.{name}"
+
+    def body(self, own, names, depth):
+        return ", ".join(self.statement(own, names, depth) for _ in range(self.chance.randint(1, 2)))
+
+    def statement(self, own, names, depth):
+        kind = self.chance.randrange(6) if depth else 5
+        if kind < 2:
+            text = f"If({self.expr(names, 1)}, {self.body(own, names, depth - 1)})"
+            for _ in range(self.chance.randrange(3)):
+                text += f".Elif({self.expr(names, 1)}, {self.body(own, names, depth - 1)})"
+            if self.chance.random() < 0.6:
+                text += f".Else({self.body(own, names, depth - 1)})"
+            return text
+        if kind == 2:
+            keys = self.chance.sample(range(-3, 9), self.chance.randint(0, 4))
+            arms = [f"{key}: [{self.body(own, names, depth - 1)}]" for key in keys]
+            if self.chance.random() < 0.6:
+                arms.insert(self.chance.randint(0, len(arms)), f'"default": {self.statement(own, names, depth - 1)}')
+            return f"Case({self.expr(names, 1)}, {{{', '.join(arms)}}})"
+        return f"{self.target(own, names)}.eq({self.expr(names, 2)})"
+
+    def text(self):
+        lines = []
+        inputs = [f"i{k}" for k in range(self.chance.randint(2, 4))]
+        held = {"sys": [f"r{k}" for k in range(self.chance.randint(0, 3))], "fast": [f"f{k}" for k in range(self.chance.randint(0, 2))]}
+        groups = [[f"c{k}_{j}" for j in range(self.chance.randint(1, 2))] for k in range(self.chance.randint(1, 3))]
+        everything = inputs + held["sys"] + held["fast"] + [name for group in groups for name in group]
+        lines += [self.signal(name) for name in everything]
+        lines.append(f"self.ios = [{', '.join(f'self.{name}' for name in everything)}]")
+        known = inputs + held["sys"] + held["fast"]
+        for group in groups:
+            lines += [f"self.comb += {self.statement(group, known, 3)}" for _ in range(self.chance.randint(1, 3))]
+            known = known + group
+        for domain, own in held.items():
+            part = "sync" if domain == "sys" else f"sync.{domain}"
+            lines += [f"self.{part} += {self.statement(own, everything, 3)}" for _ in range(self.chance.randint(1, 3)) if own]
+        return "class R(Module):\n    def __init__(self):\n" + "".join(f"        {line}\n" for line in lines)
+
+
+def sample(seed):
+    return Sample(seed).text()

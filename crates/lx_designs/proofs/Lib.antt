@@ -1,9 +1,0 @@
-pub mod Words
-pub mod Facts
-pub mod Order
-pub mod Places
-pub mod DesignNodes
-pub mod DesignCircuit
-pub mod DesignKeeps
-pub mod DesignMade
-pub mod Emittable

@@ -1,3 +1,0 @@
-pub mod FormCircuit
-pub mod FormDesign
-pub mod FormNames
