@@ -6,4 +6,5 @@ pub mod Ways
 pub mod Waves
 pub mod Ahead
 pub mod Back
+pub mod Ranking
 pub mod Worked

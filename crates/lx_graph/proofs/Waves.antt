@@ -49,7 +49,7 @@ unset_set (Some e ∷ levels) zero d l new = absurd (none-some e (sym new))
 unset_set (None ∷ levels) (suc a) d l new = let h = unset_set levels a d (omega arith) new in omega (arith, h)
 unset_set (Some e ∷ levels) (suc a) d l new = unset_set levels a d (omega arith) new
 
-abbrev unlevelled : Option ℕ
+abbrev pub unlevelled : Option ℕ
 unlevelled = None
 
 unset_all : (n : ℕ) → unset (replicate n unlevelled) ≡ n

@@ -97,8 +97,9 @@ pub stands_inner : (g : Nodes) (a b : ℕ) → g.plain ≤ a → StandsFor g a b
 stands_inner g a b inner (there, inl e) = absurd (omega arith)
 stands_inner g a b inner (there, inr (too, t)) = t
 
-pub none_below : (R : ℕ → ℕ → Type 0) (t : ℕ) → ((a : ℕ) → a < t → OnCycle R a → ⊥) → (OnCycle R t → ⊥) → (a : ℕ) → a < t + 1 → OnCycle R a → ⊥
-none_below R t below here a l cycle = elim (cases_lt a t) [
-  | inl less ↦ below a less cycle
-  | inr last ↦ let e : a ≡ t = omega arith in here (subst (λ (v : ℕ). OnCycle R v) e cycle)
+-- what holds below a number, and at it
+pub one_more : (P : ℕ → Type 0) (n : ℕ) → ((a : ℕ) → a < n → P a) → P n → (a : ℕ) → a < n + 1 → P a
+one_more P n below here a l = elim (cases_lt a n) [
+  | inl less ↦ below a less
+  | inr last ↦ let e : n ≡ a = omega arith in subst (λ (v : ℕ). P v) e here
 ]

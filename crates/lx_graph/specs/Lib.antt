@@ -4,5 +4,6 @@ pub mod Cycle
 pub mod Through
 pub mod Search
 pub mod Levels
+pub mod Ranks
 pub mod Checked
 pub mod Worked

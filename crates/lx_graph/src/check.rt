@@ -31,8 +31,7 @@ pub fn graphs_are_worked()
     ensures { AreWorked }
 {}
 
-/// An order of a graph's nodes, in time linear in the reads, or else the cycle that is told, by a search backwards from
-/// each plain node up to its first.
+/// An order of a graph's nodes, or else the cycle that is told. Both take time linear in the reads.
 pub fn check_reads(alloc: Global, graph: &Graph) -> Result<Checked, NoMemory>
     ensures { IfOk result (λ checked. IsChecked graph.now checked) }
 {

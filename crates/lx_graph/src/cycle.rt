@@ -5,10 +5,12 @@ ghost use Rattle.std.specs.List.{All};
 ghost use Rattle.lx_graph.specs.Graph.{Reads, row};
 ghost use Rattle.lx_graph.specs.Cycle.{OnCycle, IsTold};
 ghost use Rattle.lx_graph.specs.Through.{Links};
+ghost use Rattle.lx_graph.specs.Ranks.{AreTested};
 ghost use Rattle.lx_graph.specs.Levels.{AreAllFirsts, AreFirsts, AreLevelsOf, AreReaders, HaveFirsts, IsFirst, IsFound, IsLeast, IsNext, first_at, level_of, lower};
 
 use crate::graph::Graph;
 use crate::levels::{Levels, levels_of, readers_of};
+use crate::ranks::{Ranks, is_off_cycles, ranks_of};
 use lx_text::{List, NoMemory};
 use std::alloc::Global;
 
@@ -208,6 +210,27 @@ fn cycle_from(
     }
 }
 
+// The told cycle, where it begins with this plain node; one that the ranks tell to lie on no cycle isn't searched from.
+fn cycle_at(
+    alloc: Global,
+    graph: &Graph,
+    readers: &[List<usize>],
+    ranks: &Ranks,
+    target: usize,
+) -> Result<Option<List<usize>>, NoMemory>
+    requires readers { AreReaders graph.now readers.now }
+    requires ranks { AreTested graph.now ranks.now }
+    requires target { target < graph.now.plain }
+    requires first { (a : ℕ) → a < target → OnCycle (Links graph.now) a → ⊥ }
+    ensures { IfOk result (λ found. MatchOption found (OnCycle (Links graph.now) target → ⊥) (IsTold (Links graph.now))) }
+{
+    graph.holds();
+    if is_off_cycles(graph, ranks, target) {
+        return Ok(None);
+    }
+    cycle_from(alloc, graph, readers, target)
+}
+
 /// The cycle that is told of a graph that has one.
 pub(crate) fn told_cycle(alloc: Global, graph: &Graph) -> Result<List<usize>, NoMemory>
     requires { (a : ℕ) × OnCycle (Reads graph.now) a }
@@ -215,8 +238,9 @@ pub(crate) fn told_cycle(alloc: Global, graph: &Graph) -> Result<List<usize>, No
 {
     graph.holds();
     let readers = readers_of(alloc, graph)?;
+    let ranks = ranks_of(alloc, graph, readers.as_slice())?;
     for target in 0..graph.plain() {
-        let found = cycle_from(alloc, graph, readers.as_slice(), target)?;
+        let found = cycle_at(alloc, graph, readers.as_slice(), &ranks, target)?;
         match found {
             Some(cycle) => return Ok(cycle),
             None => {}

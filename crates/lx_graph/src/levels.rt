@@ -120,8 +120,8 @@ fn rise(wave: &mut Wave, graph: &Graph)
     wave.level += 1;
 }
 
-// No levels of so many nodes.
-fn no_levels(alloc: Global, count: usize) -> Result<Vec<Option<usize>>, NoMemory>
+/// No levels of so many nodes.
+pub(crate) fn no_levels(alloc: Global, count: usize) -> Result<Vec<Option<usize>>, NoMemory>
     ensures { IfOk result (λ levels. levels.items ≡ replicate count None) }
 {
     let mut levels = Vec::new(alloc);

@@ -5,6 +5,7 @@ pub mod check;
 mod cycle;
 pub mod graph;
 mod levels;
+mod ranks;
 mod search;
 
 pub use check::{Checked, check_reads, graphs_are_worked, order_law};

@@ -149,8 +149,8 @@ fn visit(search: &mut Search, graph: &Graph, root: usize) -> Result<Option<usize
     run(search, graph)
 }
 
-// The marks of so many nodes that were not met.
-fn unseen(alloc: Global, count: usize) -> Result<Vec<Mark>, NoMemory>
+/// The marks of so many nodes that were not met.
+pub(crate) fn unseen(alloc: Global, count: usize) -> Result<Vec<Mark>, NoMemory>
     ensures { IfOk result (λ marks. marks.items ≡ replicate count Unseen) }
 {
     let mut marks = Vec::new(alloc);

@@ -1,10 +1,11 @@
 use Rattle.std.proofs.Common.{arith}
+use Rattle.lx_graph.specs.Cycle.{OnCycle}
 use Rattle.lx_graph.specs.Through.{Links}
-use Rattle.lx_graph.proofs.Ways.{links_cycle, none_below}
+use Rattle.lx_graph.proofs.Ways.{links_cycle, one_more}
 use Rattle.lx_graph.proofs.cycle.told_cycle.Goals as goal
 
 pub loop-target-preserved : goal.loop-target-preserved
-loop-target-preserved c = none_below (Links c.args.graph.now) c.loop-target.target c.loop-target.invariant (rw c.in-None.is at c.in_ok-found.ensures)
+loop-target-preserved c = one_more (λ a. OnCycle (Links c.args.graph.now) a → ⊥) c.loop-target.target c.loop-target.invariant (rw c.in-None.is at c.in_ok-found.ensures)
 
 pub unreachable-requires : goal.unreachable-requires
 unreachable-requires c =
