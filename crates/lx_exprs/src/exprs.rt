@@ -2,14 +2,14 @@
 //! no expression is shifted right by more than its bits.
 
 ghost use Rattle.std.specs.Prelude.{◌≡◌, ◌<◌, pos, length, map, IfOk, IsTrue, MatchOption};
-ghost use Rattle.lx_circuit.specs.Terms.{Binary, Constant, Mux, Pick};
+ghost use Rattle.lx_circuit.specs.Terms as tree;
 ghost use Rattle.lx_circuit.specs.Values.{count_of};
 ghost use Rattle.lx_fhdl.specs.Below.{all_below, expr_below};
 ghost use Rattle.lx_fhdl.specs.Designs.{shapes, term};
 ghost use Rattle.lx_fhdl.specs.Keeping.{Keeps};
 ghost use Rattle.lx_fhdl.specs.Nodes.{IsSmall};
 ghost use Rattle.lx_fhdl.specs.Trees.{node_term, terms_at};
-ghost use Rattle.lx_fhdl.specs.declared.exprs.Expr.TheVariants as expr;
+ghost use Rattle.lx_fhdl.specs.declared.exprs.Expr.TheVariants.{Binary, Pick};
 ghost use Rattle.lx_lowering.specs.Terms.{cut_amount, is_item, lower_term, pick_from};
 ghost use Rattle.lx_exprs.specs.Exprs.{AreLowered};
 ghost use Rattle.lx_plain.specs.Operands.{HasShape};
@@ -19,8 +19,8 @@ ghost use Rattle.lx_plain.specs.Sources.{CanChoose, CanPick, IsAmount, IsLowered
 use crate::copies::{copied_memories, copied_signals};
 use lx_fhdl::{Design, Expr, ExprId};
 use lx_num::{Shape, wrap};
-use lx_plain::conds::{push_binary, push_constant, push_item_test};
-use lx_plain::operands::Operand;
+use lx_plain::conds::{push_binary, push_constant, push_test};
+use lx_plain::operands::{Operand, Test};
 use lx_plain::plain::PlainDraft;
 use lx_plain::source::Source;
 use lx_tables::Op;
@@ -120,7 +120,7 @@ fn count(number: i128) -> u128
 /// The shape of an amount that is cut: a constant of so many bits or more.
 fn cut_shape(draft: &PlainDraft, amount: ExprId, bits: u8) -> Option<Shape>
     requires { amount.place < length draft.now.exprs }
-    ensures { MatchOption result (cut_amount bits (term draft.now amount.place) ≡ term draft.now amount.place) (λ shape. IsSmall shape × (cut_amount bits (term draft.now amount.place) ≡ Constant (pos bits) shape)) }
+    ensures { MatchOption result (cut_amount bits (term draft.now amount.place) ≡ term draft.now amount.place) (λ shape. IsSmall shape × (cut_amount bits (term draft.now amount.place) ≡ tree.Constant (pos bits) shape)) }
 {
     let arena = draft.draft();
     match arena.expr(amount) {
@@ -158,7 +158,7 @@ fn push_cut(draft: &mut PlainDraft, amount: ExprId, bits: u8) -> Result<ExprId, 
 fn push_shift(draft: &mut PlainDraft, of: Operand, amount: ExprId) -> Result<ExprId, NoMemory>
     requires of { HasShape draft.old of }
     requires amount { IsAmount draft.old amount.place }
-    ensures { IfOk result (λ id. TermPut draft.old draft.new id.place (Binary Op.Shr (term draft.old of.id.place) (cut_amount of.shape.bits (term draft.old amount.place)))) }
+    ensures { IfOk result (λ id. TermPut draft.old draft.new id.place (tree.Binary Op.Shr (term draft.old of.id.place) (cut_amount of.shape.bits (term draft.old amount.place)))) }
 {
     let cut = push_cut(draft, amount, of.shape.bits)?;
     let id = push_binary(draft, Op::Shr, of.id, cut)?;
@@ -175,9 +175,9 @@ fn push_choice(
 ) -> Result<ExprId, NoMemory>
     requires index { HasShape draft.old index }
     requires both { CanChoose draft.old yes no }
-    ensures { IfOk result (λ id. TermPut draft.old draft.new id.place (Mux (is_item (shapes draft.old) (term draft.old index.id.place) item) (term draft.old yes.place) (term draft.old no.place))) }
+    ensures { IfOk result (λ id. TermPut draft.old draft.new id.place (tree.Mux (is_item (shapes draft.old) (term draft.old index.id.place) item) (term draft.old yes.place) (term draft.old no.place))) }
 {
-    let cond = push_item_test(draft, index, item)?;
+    let cond = push_test(draft, index, Test::Item(item))?;
     draft.keeps();
     let id = draft.push_expr(Expr::Mux { cond, yes, no })?;
     Ok(id)
@@ -203,43 +203,50 @@ fn push_choices(
     Ok(chosen)
 }
 
-/// Adds an operator of two expressions of the design, lowered.
-fn lower_binary(
-    source: &Source,
-    draft: &mut PlainDraft,
+/// An operator of two expressions of the design that have their new places.
+#[derive(Clone, Copy)]
+struct BinaryIn<'a> {
+    source: &'a Source<'a>,
     op: Op,
     left: ExprId,
     right: ExprId,
-) -> Result<ExprId, NoMemory>
-    requires lowered { IsLowered source.now draft.old }
-    requires node { IsNext source.now (expr.Binary op left right) }
-    ensures { IfOk result (λ id. TermPut draft.old draft.new id.place (lower_term (shapes source.now.design) (Binary op (term source.now.design left.place) (term source.now.design right.place)))) }
+    ghost next: { IsNext source.now (Binary op left right) },
+}
+
+/// A choice of one of some items of the design that have their new places.
+#[derive(Clone, Copy)]
+struct PickIn<'a> {
+    source: &'a Source<'a>,
+    items: &'a [ExprId],
+    index: ExprId,
+    ghost next: { IsNext source.now (Pick items.now index) },
+}
+
+/// Adds an operator of two expressions of the design, lowered.
+fn lower_binary(draft: &mut PlainDraft, node: BinaryIn) -> Result<ExprId, NoMemory>
+    requires { IsLowered node.source.now draft.old }
+    ensures { IfOk result (λ id. TermPut draft.old draft.new id.place (lower_term (shapes node.entry.source.now.design) (tree.Binary node.entry.op (term node.entry.source.now.design node.entry.left.place) (term node.entry.source.now.design node.entry.right.place)))) }
 {
-    let of = source.lowered(draft, left);
-    let amount = source.lowered(draft, right).id;
+    let source = node.source;
+    let of = source.lowered(draft, node.left);
+    let amount = source.lowered(draft, node.right).id;
     let _design = source.design();
     draft.keeps();
-    match op {
+    match node.op {
         Op::Shr => push_shift(draft, of, amount),
-        _ => push_binary(draft, op, of.id, amount),
+        _ => push_binary(draft, node.op, of.id, amount),
     }
 }
 
 /// Adds the choice of one of the items, which are expressions of the design, lowered.
-fn lower_pick(
-    alloc: Global,
-    source: &Source,
-    draft: &mut PlainDraft,
-    items: &[ExprId],
-    index: ExprId,
-) -> Result<ExprId, NoMemory>
-    requires lowered { IsLowered source.now draft.old }
-    requires node { IsNext source.now (expr.Pick items.now index) }
-    ensures { IfOk result (λ id. TermPut draft.old draft.new id.place (lower_term (shapes source.now.design) (Pick (terms_at (term source.now.design) items.now) (term source.now.design index.place)))) }
+fn lower_pick(alloc: Global, draft: &mut PlainDraft, node: PickIn) -> Result<ExprId, NoMemory>
+    requires { IsLowered node.source.now draft.old }
+    ensures { IfOk result (λ id. TermPut draft.old draft.new id.place (lower_term (shapes node.entry.source.now.design) (tree.Pick (terms_at (term node.entry.source.now.design) node.entry.items.now) (term node.entry.source.now.design node.entry.index.place)))) }
 {
-    let index = source.lowered(draft, index);
+    let source = node.source;
+    let index = source.lowered(draft, node.index);
     let _design = source.design();
-    let items = moved_all(alloc, source.places(), items)?;
+    let items = moved_all(alloc, source.places(), node.items)?;
     push_choices(draft, items.as_slice(), index)
 }
 
@@ -255,9 +262,22 @@ fn lower_expr(
     ensures { IfOk result (λ id. TermPut draft.old draft.new id.place (lower_term (shapes source.now.design) (node_term (term source.now.design) node.now))) }
 {
     match node {
-        Expr::Binary { op, left, right } => lower_binary(source, draft, *op, *left, *right),
+        Expr::Binary { op, left, right } => {
+            let node = BinaryIn {
+                source: &*source,
+                op: *op,
+                left: *left,
+                right: *right,
+            };
+            lower_binary(draft, node)
+        }
         Expr::Pick { items, index } => {
-            lower_pick(alloc, source, draft, items.as_slice(), *index)
+            let node = PickIn {
+                source: &*source,
+                items: items.as_slice(),
+                index: *index,
+            };
+            lower_pick(alloc, draft, node)
         }
         _ => {
             let copy = moved_node(alloc, source.places(), node)?;

@@ -1,5 +1,5 @@
 -- Flat statements of blocks, branches and arms that are put one after the other.
-use Rattle.std.proofs.Common.{◌≡◌, ℕ, ℤ, Bool, true, nat_eq, ne_eqb, ◌+◌, ◌-◌, ◌<◌, ◌≤◌, List, [], ◌∷◌, ◌++◌, append_assoc, Option, Some, None, length, take, drop, get_or, refl, sym, ap, subst, ◌∙◌, arith, cond, length-drop}
+use Rattle.std.proofs.Common.{◌≡◌, ℕ, ℤ, Bool, true, false, nat_eq, ne_eqb, ◌+◌, ◌-◌, ◌<◌, ◌≤◌, List, [], ◌∷◌, ◌++◌, append_assoc, Option, Some, None, length, take, drop, get_or, refl, sym, ap, subst, ◌∙◌, arith, cond, length-drop}
 use Rattle.std.specs.Prelude.{IsTrue}
 use Rattle.std.proofs.lemmas.Bool.{and_parts, true≢false}
 use Rattle.std.proofs.lemmas.List.{append-nil, drop_all}
@@ -13,7 +13,6 @@ use Rattle.lx_circuit.specs.Terms.{Term, Binary}
 use Rattle.lx_fhdl.specs.Below.{ExprId, StmtId, all_stmts_below, all_branches_below, all_arms_below, stmt_below}
 use Rattle.lx_fhdl.specs.Keeping.{BranchesStand, StmtStands}
 use Rattle.lx_fhdl.specs.Stmts.{block_at, branches_at, arms_at, node_stmt}
-use Rattle.lx_flat.specs.Ready.{LowerBranches}
 use Rattle.lx_fhdl.specs.declared.stmts.Arm.{Arm}
 use Rattle.lx_fhdl.specs.declared.stmts.Branch.{Branch}
 use Rattle.lx_fhdl.specs.declared.stmts.Stmt.{Stmt}
@@ -66,11 +65,10 @@ if_stands n m x branches rest line h e = node_stmt_as n m x (stmt.If branches re
 pub case_stands : (n m : ℕ) (x : Stmt) (on : ExprId) (arms : List Arm) (rest : List StmtId) (line : ℕ) → StmtStands n m x → x ≡ stmt.Case on arms rest line → on.place < n
 case_stands n m x on arms rest line h e = node_stmt_as n m x (stmt.Case on arms rest line) h e
 
--- a lone branch
-pub lone_branch : (d : Design) (bound : ℕ) (bs : List Branch) (b : Branch) → LowerBranches d bound bs → length bs ≡ 1 → b ≡ get_or bs 0 b → LowerBranches d bound (b ∷ [])
-lone_branch d bound [] b h l e = absurd (omega arith)
-lone_branch d bound (x ∷ []) b h l e = subst (λ (y : Branch). LowerBranches d bound (y ∷ [])) (sym e) h
-lone_branch d bound (x ∷ (y ∷ more)) b h l e = absurd (omega arith)
+-- a list that isn't empty
+pub some_item : {X : Type 0} (r : Bool) (xs : List X) → r ≡ nat_eq (length xs) 0 → r ≡ false → 0 < length xs
+some_item r [] e h = absurd (true≢false (sym e ∙ h))
+some_item r (x ∷ xs) e h = omega arith
 
 -- ---- blocks
 

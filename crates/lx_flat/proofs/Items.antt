@@ -28,9 +28,9 @@ arm_body_at n (a ∷ more) zero z p h = search ((and_parts (all_stmts_below n a.
 arm_body_at n (a ∷ more) (suc k) z p h = arm_body_at n more k z (search ((and_parts (all_stmts_below n a.body) (all_arms_below n more) (search p)).1)) (omega arith)
 
 -- those after the first one
-pub conds_after : (n : ℕ) (bs : List Branch) → BranchesStand n bs → BranchesStand n (drop 1 bs)
-conds_after n [] p = tt
-conds_after n (b ∷ more) p = p.1
+pub conds_after : (n : ℕ) (bs : List Branch) → ((k : ℕ) (z : Branch) → k < length bs → (get_or bs k z).cond.place < n) → (k : ℕ) (z : Branch) → k < length (drop 1 bs) → (get_or (drop 1 bs) k z).cond.place < n
+conds_after n [] p k z h = absurd (omega arith)
+conds_after n (b ∷ more) p k z h = p (suc k) z (omega arith)
 
 pub bodies_after : (n : ℕ) (bs : List Branch) → IsTrue (all_branches_below n bs) → IsTrue (all_branches_below n (drop 1 bs))
 bodies_after n [] p = p

@@ -1,22 +1,22 @@
 //! Flat statements: each assigns a signal or some of its bits, and each branch stands under its own condition.
 
-ghost use Rattle.std.specs.Prelude.{◌∷◌, ◌<◌, ◌≤◌, [], length, IfOk, OnOk, IsTrue};
+ghost use Rattle.std.specs.Prelude.{◌≡◌, ◌<◌, [], length, IfOk, OnOk, IsTrue};
 ghost use Rattle.lx_circuit.specs.Terms.{Binary};
 ghost use Rattle.lx_fhdl.specs.Below.{all_stmts_below};
 ghost use Rattle.lx_fhdl.specs.Designs.{shapes, term};
-ghost use Rattle.lx_lowering.specs.Flat.{fails, holds};
-ghost use Rattle.lx_flat.specs.Keys.{AreFresh};
 ghost use Rattle.lx_plain.specs.Operands.{HasShape};
 ghost use Rattle.lx_plain.specs.Plain.{IsBit, TermPut};
-ghost use Rattle.lx_flat.specs.Puts.{PutArms, PutCase, PutChain, PutIf, PutLone, PutOtherwise, PutStmt, PutStmts, PutWhen};
-ghost use Rattle.lx_flat.specs.Ready.{IsReady, LowerArms, LowerBranches, LowerStmts};
+ghost use Rattle.lx_plain.specs.Tests.{asked};
+ghost use Rattle.lx_flat.specs.Puts.{PutArms, PutCase, PutChain, PutIf, PutOtherwise, PutStmt, PutStmts, PutWhen};
+ghost use Rattle.lx_flat.specs.Ready.{IsReady};
 
 use crate::assigns::put_assigns;
-use crate::keys::{fresh_keys, push_key, push_no_keys};
-use lx_fhdl::{Arm, Branch, ExprId, Stmt, StmtId};
-use lx_plain::conds::{push_and, push_fails, push_holds};
-use lx_plain::groups::{put_under, put_when};
-use lx_plain::operands::Operand;
+use crate::keys::{Keyed, fresh_keys, push_key, push_no_keys};
+use crate::sites::{ArmsIn, BranchesIn, CaseIn, StmtIn, StmtsIn, TargetIn};
+use lx_fhdl::{ExprId, Stmt, StmtId};
+use lx_plain::conds::{push_binary, push_test};
+use lx_plain::groups::put_under;
+use lx_plain::operands::{Operand, Test};
 use lx_plain::owned::Own;
 use lx_plain::plain::PlainDraft;
 use lx_plain::source::Source;
@@ -24,25 +24,19 @@ use lx_tables::Op;
 use lx_text::{List, NoMemory};
 use std::alloc::Global;
 
-/// Adds the condition that a condition of one bit holds and another one too.
-fn push_and_holds(draft: &mut PlainDraft, none: ExprId, cond: Operand) -> Result<ExprId, NoMemory>
+/// Adds the condition that a condition of one bit holds and another one holds, or fails.
+fn push_and_test(
+    draft: &mut PlainDraft,
+    none: ExprId,
+    cond: Operand,
+    test: Test,
+) -> Result<ExprId, NoMemory>
     requires none { IsBit draft.old none.place }
     requires cond { HasShape draft.old cond }
-    ensures { IfOk result (λ id. TermPut draft.old draft.new id.place (Binary Op.And (term draft.old none.place) (holds (shapes draft.old) (term draft.old cond.id.place)))) }
+    ensures { IfOk result (λ id. TermPut draft.old draft.new id.place (Binary Op.And (term draft.old none.place) (asked (shapes draft.old) (term draft.old cond.id.place) test))) }
 {
-    let holds = push_holds(draft, cond)?;
-    let id = push_and(draft, none, holds)?;
-    Ok(id)
-}
-
-/// Adds the condition that a condition of one bit holds and another one fails.
-fn push_and_fails(draft: &mut PlainDraft, none: ExprId, cond: Operand) -> Result<ExprId, NoMemory>
-    requires none { IsBit draft.old none.place }
-    requires cond { HasShape draft.old cond }
-    ensures { IfOk result (λ id. TermPut draft.old draft.new id.place (Binary Op.And (term draft.old none.place) (fails (shapes draft.old) (term draft.old cond.id.place)))) }
-{
-    let fails = push_fails(draft, cond)?;
-    let id = push_and(draft, none, fails)?;
+    let asked = push_test(draft, cond, test)?;
+    let id = push_binary(draft, Op::And, none, asked)?;
     Ok(id)
 }
 
@@ -59,7 +53,12 @@ pub fn flatten(
 {
     let mut out = List::new(alloc);
     let bound = source.stmts();
-    put_flat_block(alloc, source, draft, ids, bound, &mut out)?;
+    let stmts = StmtsIn {
+        source: &*source,
+        ids,
+        bound,
+    };
+    put_flat_block(alloc, draft, stmts, &mut out)?;
     Ok(out)
 }
 
@@ -67,23 +66,27 @@ pub fn flatten(
 #[cycle(flat)]
 fn put_flat(
     alloc: Global,
-    source: &Source,
     draft: &mut PlainDraft,
-    id: StmtId,
+    stmt: StmtIn,
     out: &mut List<Own>,
 ) -> Result<(), NoMemory>
-    requires ready { IsReady source.now draft.old out.old }
-    requires place { id.place < length source.now.design.stmts }
-    ensures { OnOk result (PutStmt source.now draft.old draft.new out.old out.new id.place) }
+    requires { IsReady stmt.source.now draft.old out.old }
+    ensures { OnOk result (PutStmt stmt.entry.source.now draft.old draft.new out.old out.new stmt.entry.id.place) }
 {
-    match source.stmt(id) {
+    let source = stmt.source;
+    let bound = stmt.id.place;
+    match source.stmt(stmt.id) {
         Stmt::Assign {
             target,
             value,
             line,
         } => {
             let value = source.lowered(draft, *value);
-            put_assigns(alloc, source, draft, *target, value, *line, out)
+            let target = TargetIn {
+                source,
+                id: *target,
+            };
+            put_assigns(alloc, draft, target, value, *line, out)
         }
         Stmt::If {
             branches,
@@ -92,7 +95,14 @@ fn put_flat(
         } => {
             let branches = branches.as_slice();
             let rest = rest.as_slice();
-            put_if(alloc, source, draft, branches, rest, id.place, *line, out)
+            let choice = BranchesIn {
+                source,
+                branches,
+                rest,
+                bound,
+                line: *line,
+            };
+            put_if(alloc, draft, choice, out)
         }
         Stmt::Case {
             on,
@@ -102,27 +112,33 @@ fn put_flat(
         } => {
             let arms = arms.as_slice();
             let rest = rest.as_slice();
-            put_case(alloc, source, draft, *on, arms, rest, id.place, *line, out)
+            let case = CaseIn {
+                source,
+                on: *on,
+                arms,
+                rest,
+                bound,
+                line: *line,
+            };
+            put_case(alloc, draft, case, out)
         }
     }
 }
 
-/// Adds the flat statements of a block, whose statements are lower than `bound`.
+/// Adds the flat statements of a block.
 #[cycle(flat)]
 fn put_flat_block(
     alloc: Global,
-    source: &Source,
     draft: &mut PlainDraft,
-    ids: &[StmtId],
-    bound: usize,
+    stmts: StmtsIn,
     out: &mut List<Own>,
 ) -> Result<(), NoMemory>
-    requires ready { IsReady source.now draft.old out.old }
-    requires stmts { LowerStmts source.now.design bound ids.now }
-    ensures { OnOk result (PutStmts source.now draft.old draft.new out.old out.new ids.now) }
+    requires { IsReady stmts.source.now draft.old out.old }
+    ensures { OnOk result (PutStmts stmts.entry.source.now draft.old draft.new out.old out.new stmts.entry.ids.now) }
 {
-    for id in ids {
-        put_flat(alloc, source, draft, *id, out)?;
+    let source = stmts.source;
+    for id in stmts.ids {
+        put_flat(alloc, draft, StmtIn { source, id: *id }, out)?;
     }
     Ok(())
 }
@@ -131,99 +147,90 @@ fn put_flat_block(
 #[cycle(flat)]
 fn put_block_when(
     alloc: Global,
-    source: &Source,
     draft: &mut PlainDraft,
     cond: ExprId,
-    ids: &[StmtId],
-    bound: usize,
+    stmts: StmtsIn,
     line: u32,
     out: &mut List<Own>,
 ) -> Result<(), NoMemory>
-    requires ready { IsReady source.now draft.old out.old }
+    requires ready { IsReady stmts.source.now draft.old out.old }
     requires cond { cond.place < length draft.old.exprs }
-    requires stmts { LowerStmts source.now.design bound ids.now }
-    ensures { OnOk result (PutWhen source.now draft.old draft.new out.old out.new cond.place line ids.now) }
+    ensures { OnOk result (PutWhen stmts.entry.source.now draft.old draft.new out.old out.new cond.place line stmts.entry.ids.now) }
 {
     let mut own = List::new(alloc);
-    put_flat_block(alloc, source, draft, ids, bound, &mut own)?;
-    put_when(alloc, draft, cond, own.as_slice(), line, out)
+    put_flat_block(alloc, draft, stmts, &mut own)?;
+    put_under(alloc, draft, cond, own.as_slice(), &[], line, out)
 }
 
 /// Adds the flat statements of branches and the rest.
 #[cycle(flat)]
 fn put_if(
     alloc: Global,
-    source: &Source,
     draft: &mut PlainDraft,
-    branches: &[Branch],
-    rest: &[StmtId],
-    bound: usize,
-    line: u32,
+    node: BranchesIn,
     out: &mut List<Own>,
 ) -> Result<(), NoMemory>
-    requires ready { IsReady source.now draft.old out.old }
-    requires branches { LowerBranches source.now.design bound branches.now }
-    requires rest { LowerStmts source.now.design bound rest.now }
-    ensures { OnOk result (PutIf source.now draft.old draft.new out.old out.new line branches.now rest.now) }
+    requires { IsReady node.source.now draft.old out.old }
+    ensures { OnOk result (PutIf node.entry.source.now draft.old draft.new out.old out.new node.entry.line node.entry.branches.now node.entry.rest.now) }
 {
+    let source = node.source;
+    let bound = node.bound;
+    let branches = node.branches;
     if branches.is_empty() {
-        return put_flat_block(alloc, source, draft, rest, bound, out);
+        let rest = StmtsIn {
+            source,
+            ids: node.rest,
+            bound,
+        };
+        return put_flat_block(alloc, draft, rest, out);
     }
     if branches.len() == 1 {
-        return put_lone(alloc, source, draft, &branches[0], rest, bound, line, out);
+        return put_lone(alloc, draft, node, out);
     }
-    put_several(alloc, source, draft, branches, rest, bound, line, out)
-}
-
-/// Adds the flat statements of several branches and the rest.
-#[cycle(flat)]
-fn put_several(
-    alloc: Global,
-    source: &Source,
-    draft: &mut PlainDraft,
-    branches: &[Branch],
-    rest: &[StmtId],
-    bound: usize,
-    line: u32,
-    out: &mut List<Own>,
-) -> Result<(), NoMemory>
-    requires ready { IsReady source.now draft.old out.old }
-    requires several { 2 ≤ length branches.now }
-    requires branches { LowerBranches source.now.design bound branches.now }
-    requires rest { LowerStmts source.now.design bound rest.now }
-    ensures { OnOk result (PutIf source.now draft.old draft.new out.old out.new line branches.now rest.now) }
-{
     let first = &branches[0];
     let cond = source.lowered(draft, first.cond);
-    let body = first.body.as_slice();
-    put_block_when(alloc, source, draft, cond.id, body, bound, line, out)?;
-    let none = push_fails(draft, cond)?;
-    let more = &branches[1..];
-    put_chain(alloc, source, draft, none, more, rest, bound, line, out)
+    let ids = first.body.as_slice();
+    let body = StmtsIn { source, ids, bound };
+    put_block_when(alloc, draft, cond.id, body, node.line, out)?;
+    let none = push_test(draft, cond, Test::Fails)?;
+    let branches = &branches[1..];
+    let more = BranchesIn {
+        source,
+        branches,
+        rest: node.rest,
+        bound,
+        line: node.line,
+    };
+    put_chain(alloc, draft, none, more, out)
 }
 
-/// Adds the flat statements of a branch that keeps its rest beside it, where one of them has statements.
+/// Adds the flat statements of a lone branch, which keeps its rest beside it, where one of them has statements.
 #[cycle(flat)]
 fn put_lone(
     alloc: Global,
-    source: &Source,
     draft: &mut PlainDraft,
-    branch: &Branch,
-    rest: &[StmtId],
-    bound: usize,
-    line: u32,
+    node: BranchesIn,
     out: &mut List<Own>,
 ) -> Result<(), NoMemory>
-    requires ready { IsReady source.now draft.old out.old }
-    requires branch { LowerBranches source.now.design bound (branch.now ∷ []) }
-    requires rest { LowerStmts source.now.design bound rest.now }
-    ensures { OnOk result (PutLone source.now draft.old draft.new out.old out.new line branch.now rest.now) }
+    requires ready { IsReady node.source.now draft.old out.old }
+    requires lone { length node.branches.now ≡ 1 }
+    ensures { OnOk result (PutIf node.entry.source.now draft.old draft.new out.old out.new node.entry.line node.entry.branches.now node.entry.rest.now) }
 {
+    let source = node.source;
+    let bound = node.bound;
+    let branches = node.branches;
+    let branch = &branches[0];
+    let ids = branch.body.as_slice();
+    let body = StmtsIn { source, ids, bound };
+    let rest = StmtsIn {
+        source,
+        ids: node.rest,
+        bound,
+    };
     let mut then_ = List::new(alloc);
     let mut else_ = List::new(alloc);
-    let body = branch.body.as_slice();
-    put_flat_block(alloc, source, draft, body, bound, &mut then_)?;
-    put_flat_block(alloc, source, draft, rest, bound, &mut else_)?;
+    put_flat_block(alloc, draft, body, &mut then_)?;
+    put_flat_block(alloc, draft, rest, &mut else_)?;
     let cond = source.lowered(draft, branch.cond);
     put_under(
         alloc,
@@ -231,7 +238,7 @@ fn put_lone(
         cond.id,
         then_.as_slice(),
         else_.as_slice(),
-        line,
+        node.line,
         out,
     )
 }
@@ -240,84 +247,88 @@ fn put_lone(
 #[cycle(flat)]
 fn put_chain(
     alloc: Global,
-    source: &Source,
     draft: &mut PlainDraft,
     none: ExprId,
-    branches: &[Branch],
-    rest: &[StmtId],
-    bound: usize,
-    line: u32,
+    node: BranchesIn,
     out: &mut List<Own>,
 ) -> Result<(), NoMemory>
-    requires ready { IsReady source.now draft.old out.old }
+    requires ready { IsReady node.source.now draft.old out.old }
     requires none { IsBit draft.old none.place }
-    requires branches { LowerBranches source.now.design bound branches.now }
-    requires rest { LowerStmts source.now.design bound rest.now }
-    ensures { OnOk result (PutChain source.now draft.old draft.new out.old out.new none.place line branches.now rest.now) }
+    ensures { OnOk result (PutChain node.entry.source.now draft.old draft.new out.old out.new none.place node.entry.line node.entry.branches.now node.entry.rest.now) }
 {
+    let source = node.source;
+    let bound = node.bound;
     let mut none = none;
-    for branch in branches {
+    for branch in node.branches {
         let cond = source.lowered(draft, branch.cond);
-        let here = push_and_holds(draft, none, cond)?;
-        let body = branch.body.as_slice();
-        put_block_when(alloc, source, draft, here, body, bound, line, out)?;
-        none = push_and_fails(draft, none, cond)?;
+        let here = push_and_test(draft, none, cond, Test::Holds)?;
+        let ids = branch.body.as_slice();
+        let body = StmtsIn { source, ids, bound };
+        put_block_when(alloc, draft, here, body, node.line, out)?;
+        none = push_and_test(draft, none, cond, Test::Fails)?;
     }
-    put_block_when(alloc, source, draft, none, rest, bound, line, out)
+    let rest = StmtsIn {
+        source,
+        ids: node.rest,
+        bound,
+    };
+    put_block_when(alloc, draft, none, rest, node.line, out)
 }
 
 /// Adds the flat statements of a `Case`.
 #[cycle(flat)]
 fn put_case(
     alloc: Global,
-    source: &Source,
     draft: &mut PlainDraft,
-    on: ExprId,
-    arms: &[Arm],
-    rest: &[StmtId],
-    bound: usize,
-    line: u32,
+    node: CaseIn,
     out: &mut List<Own>,
 ) -> Result<(), NoMemory>
-    requires ready { IsReady source.now draft.old out.old }
-    requires on { on.place < length source.now.places }
-    requires arms { LowerArms source.now.design bound arms.now }
-    requires rest { LowerStmts source.now.design bound rest.now }
-    ensures { OnOk result (PutCase source.now draft.old draft.new out.old out.new on.place line arms.now rest.now) }
+    requires { IsReady node.source.now draft.old out.old }
+    ensures { OnOk result (PutCase node.entry.source.now draft.old draft.new out.old out.new node.entry.on.place node.entry.line node.entry.arms.now node.entry.rest.now) }
 {
-    let on = source.lowered(draft, on);
+    let source = node.source;
+    let on = source.lowered(draft, node.on);
     draft.keeps();
-    let fresh = fresh_keys(alloc, arms, on.shape)?;
+    let fresh = fresh_keys(alloc, node.arms, on.shape)?;
     let fresh = fresh.as_slice();
-    put_arms(alloc, source, draft, on, arms, fresh, bound, line, out)?;
-    put_otherwise(
-        alloc, source, draft, on, arms, fresh, rest, bound, line, out,
-    )
+    let keyed = Keyed {
+        on,
+        arms: node.arms,
+        fresh,
+    };
+    let arms = ArmsIn {
+        source,
+        keyed,
+        rest: node.rest,
+        bound: node.bound,
+        line: node.line,
+    };
+    put_arms(alloc, draft, arms, out)?;
+    put_otherwise(alloc, draft, arms, out)
 }
 
 /// Adds the flat statements of arms, each where its key is the value and stands first.
 #[cycle(flat)]
 fn put_arms(
     alloc: Global,
-    source: &Source,
     draft: &mut PlainDraft,
-    on: Operand,
-    arms: &[Arm],
-    fresh: &[bool],
-    bound: usize,
-    line: u32,
+    node: ArmsIn,
     out: &mut List<Own>,
 ) -> Result<(), NoMemory>
-    requires ready { IsReady source.now draft.old out.old }
-    requires on { HasShape draft.old on }
-    requires arms { LowerArms source.now.design bound arms.now }
-    requires fresh { AreFresh on.shape arms.now (length arms.now) fresh.now }
-    ensures { OnOk result (PutArms source.now draft.old draft.new out.old out.new on.id.place line arms.now) }
+    requires ready { IsReady node.source.now draft.old out.old }
+    requires on { HasShape draft.old node.keyed.on }
+    ensures { OnOk result (PutArms node.entry.source.now draft.old draft.new out.old out.new node.entry.keyed.on.id.place node.entry.line node.entry.keyed.arms.now) }
 {
+    let source = node.source;
+    let bound = node.bound;
+    let on = node.keyed.on;
+    let arms = node.keyed.arms;
+    let fresh = node.keyed.fresh;
     for (number, arm) in arms.iter().enumerate() {
         let here = push_key(draft, on, fresh[number], arm.key)?;
-        let body = arm.body.as_slice();
-        put_block_when(alloc, source, draft, here, body, bound, line, out)?;
+        let ids = arm.body.as_slice();
+        let body = StmtsIn { source, ids, bound };
+        put_block_when(alloc, draft, here, body, node.line, out)?;
     }
     Ok(())
 }
@@ -326,27 +337,24 @@ fn put_arms(
 #[cycle(flat)]
 fn put_otherwise(
     alloc: Global,
-    source: &Source,
     draft: &mut PlainDraft,
-    on: Operand,
-    arms: &[Arm],
-    fresh: &[bool],
-    rest: &[StmtId],
-    bound: usize,
-    line: u32,
+    node: ArmsIn,
     out: &mut List<Own>,
 ) -> Result<(), NoMemory>
-    requires ready { IsReady source.now draft.old out.old }
-    requires on { HasShape draft.old on }
-    requires fresh { AreFresh on.shape arms.now (length arms.now) fresh.now }
-    requires rest { LowerStmts source.now.design bound rest.now }
-    ensures { OnOk result (PutOtherwise source.now draft.old draft.new out.old out.new on.id.place line arms.now rest.now) }
+    requires ready { IsReady node.source.now draft.old out.old }
+    requires on { HasShape draft.old node.keyed.on }
+    ensures { OnOk result (PutOtherwise node.entry.source.now draft.old draft.new out.old out.new node.entry.keyed.on.id.place node.entry.line node.entry.keyed.arms.now node.entry.rest.now) }
 {
-    if rest.is_empty() {
+    if node.rest.is_empty() {
         return Ok(());
     }
-    match push_no_keys(draft, on, arms, fresh)? {
-        Some(none) => put_block_when(alloc, source, draft, none, rest, bound, line, out),
-        None => put_flat_block(alloc, source, draft, rest, bound, out),
+    let rest = StmtsIn {
+        source: node.source,
+        ids: node.rest,
+        bound: node.bound,
+    };
+    match push_no_keys(draft, node.keyed)? {
+        Some(none) => put_block_when(alloc, draft, none, rest, node.line, out),
+        None => put_flat_block(alloc, draft, rest, out),
     }
 }

@@ -3,19 +3,20 @@
 ghost use Rattle.std.specs.Ordering.{int_eq};
 ghost use Rattle.std.specs.Prelude.{◌≡◌, ◌&&◌, [], length, if◌then◌else◌, IfOk, Some, None};
 ghost use Rattle.lx_num.specs.Ints.{wrapped};
-ghost use Rattle.lx_circuit.specs.Terms.{Binary};
 ghost use Rattle.lx_fhdl.specs.Designs.{shapes, term};
 ghost use Rattle.lx_fhdl.specs.Nodes.{IsSmall};
-ghost use Rattle.lx_lowering.specs.Flat.{and_none, key_of};
+ghost use Rattle.lx_lowering.specs.Flat.{and_none};
 ghost use Rattle.lx_lowering.specs.Terms.{never};
 ghost use Rattle.lx_flat.specs.Keys.{AreBits, AreFresh, NonePut, none_after, none_of};
 ghost use Rattle.lx_plain.specs.Operands.{HasShape};
 ghost use Rattle.lx_plain.specs.Plain.{TermPut};
+ghost use Rattle.lx_plain.specs.Tests.{asked};
+ghost use Rattle.lx_plain.specs.declared.operands.Test.TheVariants.{Key, NoKey};
 
 use lx_fhdl::{Arm, ExprId};
 use lx_num::{Shape, wrap};
-use lx_plain::conds::{push_and, push_key_fails, push_key_test, push_never};
-use lx_plain::operands::Operand;
+use lx_plain::conds::{push_binary, push_never, push_test};
+use lx_plain::operands::{Operand, Test};
 use lx_plain::plain::PlainDraft;
 use lx_tables::Op;
 use lx_text::{List, NoMemory};
@@ -28,6 +29,16 @@ fn is_fresh(key: i128, shape: Shape, first: bool) -> bool
     ensures { result ≡ (int_eq (wrapped shape key) key && first) }
 {
     wrap(key, shape) == key && first
+}
+
+/// An expression, arms by whose keys it chooses, and for each arm whether its key is one of the values of the expression's
+/// shape and stands in no arm before.
+#[derive(Clone, Copy)]
+pub(crate) struct Keyed<'a> {
+    pub on: Operand,
+    pub arms: &'a [Arm],
+    pub fresh: &'a [bool],
+    pub ghost are: { AreFresh on.shape arms.now (length arms.now) fresh.now },
 }
 
 /// For each arm, whether its key is one of the values of a shape and stands in no arm before.
@@ -53,10 +64,10 @@ pub(crate) fn push_key(
     key: i128,
 ) -> Result<ExprId, NoMemory>
     requires { HasShape draft.old on }
-    ensures { IfOk result (λ id. TermPut draft.old draft.new id.place (if fresh then Binary Op.Eq (term draft.old on.id.place) (key_of (shapes draft.old) (term draft.old on.id.place) key) else never)) }
+    ensures { IfOk result (λ id. TermPut draft.old draft.new id.place (if fresh then asked (shapes draft.old) (term draft.old on.id.place) (Key key) else never)) }
 {
     if fresh {
-        push_key_test(draft, on, key)
+        push_test(draft, on, Test::Key(key))
     } else {
         push_never(draft)
     }
@@ -71,11 +82,11 @@ fn push_and_none(
 ) -> Result<ExprId, NoMemory>
     requires on { HasShape draft.old on }
     requires none { AreBits draft.old none }
-    ensures { IfOk result (λ id. NonePut draft.old draft.new (Some id) (and_none (none_of draft.old none) (Binary Op.Ne (term draft.old on.id.place) (key_of (shapes draft.old) (term draft.old on.id.place) key)))) }
+    ensures { IfOk result (λ id. NonePut draft.old draft.new (Some id) (and_none (none_of draft.old none) (asked (shapes draft.old) (term draft.old on.id.place) (NoKey key)))) }
 {
-    let other = push_key_fails(draft, on, key)?;
+    let other = push_test(draft, on, Test::NoKey(key))?;
     match none {
-        Some(none) => push_and(draft, none, other),
+        Some(none) => push_binary(draft, Op::And, none, other),
         None => Ok(other),
     }
 }
@@ -90,7 +101,7 @@ fn push_no_key(
 ) -> Result<Option<ExprId>, NoMemory>
     requires on { HasShape draft.old on }
     requires none { AreBits draft.old none }
-    ensures { IfOk result (λ more. NonePut draft.old draft.new more (if fresh then and_none (none_of draft.old none) (Binary Op.Ne (term draft.old on.id.place) (key_of (shapes draft.old) (term draft.old on.id.place) key)) else none_of draft.old none)) }
+    ensures { IfOk result (λ more. NonePut draft.old draft.new more (if fresh then and_none (none_of draft.old none) (asked (shapes draft.old) (term draft.old on.id.place) (NoKey key)) else none_of draft.old none)) }
 {
     if fresh {
         Ok(Some(push_and_none(draft, none, on, key)?))
@@ -100,16 +111,13 @@ fn push_no_key(
 }
 
 /// Adds the condition that an expression is no key of some arms, where it can be one.
-pub(crate) fn push_no_keys(
-    draft: &mut PlainDraft,
-    on: Operand,
-    arms: &[Arm],
-    fresh: &[bool],
-) -> Result<Option<ExprId>, NoMemory>
-    requires on { HasShape draft.old on }
-    requires fresh { AreFresh on.shape arms.now (length arms.now) fresh.now }
-    ensures { IfOk result (λ none. NonePut draft.old draft.new none (none_after (shapes draft.old) (term draft.old on.id.place) [] None arms.now)) }
+pub(crate) fn push_no_keys(draft: &mut PlainDraft, keyed: Keyed) -> Result<Option<ExprId>, NoMemory>
+    requires { HasShape draft.old keyed.on }
+    ensures { IfOk result (λ none. NonePut draft.old draft.new none (none_after (shapes draft.old) (term draft.old keyed.entry.on.id.place) [] None keyed.entry.arms.now)) }
 {
+    let on = keyed.on;
+    let arms = keyed.arms;
+    let fresh = keyed.fresh;
     let mut none = None;
     for (number, arm) in arms.iter().enumerate() {
         none = push_no_key(draft, none, on, fresh[number], arm.key)?;

@@ -5,5 +5,6 @@ mod assigns;
 mod bits;
 mod flat;
 mod keys;
+mod sites;
 
 pub use flat::flatten;

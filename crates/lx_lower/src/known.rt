@@ -6,13 +6,14 @@ ghost use Rattle.lx_fhdl.specs.Below.{stmt_below};
 ghost use Rattle.lx_fhdl.specs.Designs.{shapes, stmt, target, term};
 ghost use Rattle.lx_fhdl.specs.Keeping.{StmtStands, TargetStands};
 ghost use Rattle.lx_fhdl.specs.Stmts.{node_stmt, node_target};
+ghost use Rattle.lx_flat.specs.Ready.{LowerBranches, LowerStmts};
 ghost use Rattle.lx_lowering.specs.Constants.{names_none, zeros};
 ghost use Rattle.lx_lower.specs.Fixed.{IsFixed, IsNarrow, reset_of};
 ghost use Rattle.lx_plain.specs.Lines.{lines_at};
 ghost use Rattle.lx_plain.specs.Owned.{node_lines_of};
 
 use crate::fixed::{Fixed, fixed_exprs};
-use lx_fhdl::{Draft, ExprId, SigId, Signal, Stmt, StmtId, Target, TargetId};
+use lx_fhdl::{Branch, Draft, ExprId, SigId, Signal, Stmt, StmtId, Target, TargetId};
 use lx_text::NoMemory;
 use std::alloc::Global;
 use std::marker::Model;
@@ -72,28 +73,6 @@ impl<'a> Known<'a> {
         *self.fixed.values.at(id.place)
     }
 
-    /// The target at a place.
-    pub fn target(&self, id: TargetId) -> &'a Target
-        requires { id.place < length self.now.targets }
-        ensures stands { TargetStands (shapes self.now) (length self.now.signals) self.now.exprs result.now }
-        ensures tree { target self.now id.place ≡ node_target (term self.now) (target self.now) result.now }
-    {
-        let draft = self.draft;
-        draft.target(id)
-    }
-
-    /// The statement at a place.
-    pub fn stmt(&self, id: StmtId) -> &'a Stmt
-        requires { id.place < length self.now.stmts }
-        ensures below { IsTrue (stmt_below result.now id.place) }
-        ensures stands { StmtStands (length self.now.exprs) (length self.now.targets) result.now }
-        ensures tree { stmt self.now id.place ≡ node_stmt (term self.now) (target self.now) (stmt self.now) result.now }
-        ensures lines { (x : ℕ) → lines_at self.now x id.place ≡ node_lines_of self.now x result.now }
-    {
-        let draft = self.draft;
-        draft.design().stmts.get(id)
-    }
-
     /// A signal.
     pub fn signal(&self, x: SigId) -> &'a Signal
         requires { x.0 < length self.now.signals }
@@ -104,4 +83,64 @@ impl<'a> Known<'a> {
         let draft = self.draft;
         draft.design().signals.at(x.0)
     }
+}
+
+/// A target of a known draft.
+#[derive(Clone, Copy)]
+pub(crate) struct TargetOf<'a> {
+    pub known: &'a Known<'a>,
+    pub id: TargetId,
+    pub ghost there: { id.place < length known.now.targets },
+}
+
+impl<'a> TargetOf<'a> {
+    /// Its node.
+    pub fn target(self) -> &'a Target
+        ensures stands { TargetStands (shapes self.entry.known.now) (length self.entry.known.now.signals) self.entry.known.now.exprs result.now }
+        ensures tree { target self.entry.known.now self.entry.id.place ≡ node_target (term self.entry.known.now) (target self.entry.known.now) result.now }
+    {
+        let known = self.known;
+        let draft = known.draft;
+        draft.target(self.id)
+    }
+}
+
+/// A statement of a known draft.
+#[derive(Clone, Copy)]
+pub(crate) struct StmtOf<'a> {
+    pub known: &'a Known<'a>,
+    pub id: StmtId,
+    pub ghost there: { id.place < length known.now.stmts },
+}
+
+impl<'a> StmtOf<'a> {
+    /// Its node, whose statements inside are lower.
+    pub fn stmt(self) -> &'a Stmt
+        ensures below { IsTrue (stmt_below result.now self.entry.id.place) }
+        ensures stands { StmtStands (length self.entry.known.now.exprs) (length self.entry.known.now.targets) result.now }
+        ensures tree { stmt self.entry.known.now self.entry.id.place ≡ node_stmt (term self.entry.known.now) (target self.entry.known.now) (stmt self.entry.known.now) result.now }
+        ensures lines { (x : ℕ) → lines_at self.entry.known.now x self.entry.id.place ≡ node_lines_of self.entry.known.now x result.now }
+    {
+        let known = self.known;
+        let draft = known.draft;
+        draft.design().stmts.get(self.id)
+    }
+}
+
+/// Statements of a known draft, each lower than a bound.
+#[derive(Clone, Copy)]
+pub(crate) struct BlockOf<'a> {
+    pub known: &'a Known<'a>,
+    pub ids: &'a [StmtId],
+    pub bound: usize,
+    pub ghost lower: { LowerStmts known.now bound ids.now },
+}
+
+/// Branches of a known draft, whose statements are each lower than a bound.
+#[derive(Clone, Copy)]
+pub(crate) struct BranchesOf<'a> {
+    pub known: &'a Known<'a>,
+    pub branches: &'a [Branch],
+    pub bound: usize,
+    pub ghost lower: { LowerBranches known.now bound branches.now },
 }

@@ -9,7 +9,7 @@ ghost use Rattle.lx_lower.specs.Lists.{AreBySignal, AreFolds, AreForSignals, IsF
 ghost use Rattle.lx_plain.specs.Owned.{all_signals};
 
 use crate::fold::{Folded, fold_of};
-use crate::known::Known;
+use crate::known::{BlockOf, Known};
 use lx_fhdl::{Draft, SigId, Stmt, StmtId, Target};
 use lx_plain::conds::push_constant;
 use lx_plain::groups::copied_ids;
@@ -76,10 +76,16 @@ pub(crate) fn folds(
     ensures { IfOk result (λ folds. AreFolds draft.now lists.now (length draft.now.signals) folds) }
 {
     let known = Known::new(alloc, draft)?;
+    let bound = known.stmts();
     let mut folds = List::new(alloc);
     for x in 0..lists.len() {
         let list = lists[x].as_slice();
-        let fold = fold_of(&known, SigId(x), list);
+        let stmts = BlockOf {
+            known: &known,
+            ids: list,
+            bound,
+        };
+        let fold = fold_of(stmts, SigId(x));
         folds.push(fold)?;
     }
     Ok(folds)

@@ -1,13 +1,14 @@
 -- Conditions that are added to a draft.
-use Rattle.std.proofs.Common.{◌≡◌, ℕ, ◌*◌, ◌%◌, ◌^◌, ◌<◌, ◌≤◌, Bool, true, false, refl, sym, ap, ◌∙◌, arith, nat_lt, [], ◌∷◌, length, length-append}
-use Rattle.std.specs.Prelude.{ℤ, Option, None}
+use Rattle.std.proofs.Common.{◌≡◌, ℕ, ◌*◌, ◌%◌, ◌^◌, ◌<◌, ◌≤◌, Bool, true, false, refl, sym, ap, subst, ◌∙◌, arith, nat_lt, [], ◌∷◌, length, length-append}
+use Rattle.std.specs.Prelude.{ℤ, pos, Option, None, Some, cond}
 use Rattle.lx_circuit.specs.declared.WidthFault.{WidthFault}
 use Rattle.std.proofs.Math.Nat.{pow-le-pow_right}
 use Rattle.std.proofs.lemmas.Bool.{lt-ltb, and_from}
 use Rattle.std.proofs.lemmas.Nat.{one_shl}
 use Rattle.lx_num.specs.declared.Shape.{Shape}
 use Rattle.lx_tables.specs.declared.operators.Op.{Op}
-use Rattle.lx_circuit.specs.Shapes.{or_else, shape_of, fault_of, binary_fault}
+use Rattle.lx_circuit.specs.Shapes.{Shapes, or_else, shape_of, fault_of, binary_fault}
+use Rattle.lx_lowering.specs.Terms.{never}
 use Rattle.lx_circuit.specs.Terms as tree
 use Rattle.lx_circuit.specs.Terms.{Term}
 use Rattle.lx_fhdl.specs.Below.{ExprId}
@@ -20,9 +21,11 @@ use Rattle.lx_fhdl.specs.declared.exprs.Expr.{Expr}
 use Rattle.lx_fhdl.specs.declared.exprs.Expr.TheVariants.{Binary}
 use Rattle.lx_plain.specs.Operands.{CanJoin, HasShape}
 use Rattle.lx_plain.specs.Plain.{CanAdd, ExprAdded, IsBit, TermPut}
-use Rattle.lx_plain.specs.Tests.{is_test}
+use Rattle.lx_plain.specs.Tests.{asked, compared, is_test}
+use Rattle.lx_plain.specs.declared.operands.Test.{Test}
+use Rattle.lx_plain.specs.declared.operands.Test.TheVariants.{Holds, Fails, Item, Last, Key, NoKey}
 use Rattle.lx_plain.specs.declared.operands.Operand.{Operand}
-use Rattle.lx_plain.proofs.Sound.{grows_then, put_is, shape_kept, small_shape, term_kept}
+use Rattle.lx_plain.proofs.Sound.{grows_then, put_is, same_shapes, shape_kept, small_shape, term_kept}
 use Rattle.lx_num.specs.Ints.{shape, unsigned}
 use Rattle.lx_circuit.specs.Shapes.{joined, too_wide}
 use Rattle.lx_circuit.specs.Operands.{is_binary}
@@ -105,10 +108,87 @@ number_put old mid new o of number id t l p q = record {
   tree = q.tree ∙ ap (λ u. tree.Binary o u (term mid number.place)) (term_kept of.place p.grows l) ∙ ap (tree.Binary o (term old of.place)) p.tree;
 }
 
--- a test against a number of the expression's own shape
-pub own_shape : (old new : Design) (o : Op) (of : Operand) (id : ℕ) (z : ℤ) → HasShape old of → TermPut old new id (tree.Binary o (term old of.id.place) (tree.Constant z of.shape))
-    → TermPut old new id (tree.Binary o (term old of.id.place) (tree.Constant z (shape_of (shapes old) (term old of.id.place))))
-own_shape old new o of id z h p = put_is old new id _ _ p (ap (λ a. tree.Binary o (term old of.id.place) (tree.Constant z a)) (sym h.shape))
+-- ---- what a test asks
+
+-- a comparison, or what never holds
+abbrev compared_term : Term → Shape → Option (Op × ℤ) → Term
+compared_term e a None = never
+compared_term e a (Some c) = tree.Binary c.0 e (tree.Constant c.1 a)
+
+abbrev are_tests : Option (Op × ℤ) → Bool
+are_tests None = true
+are_tests (Some c) = is_test c.0
+
+all_tests : (n : ℕ) (t : Test) → are_tests (compared n t) ≡ true
+all_tests n Holds = refl
+all_tests n Fails = refl
+all_tests n (Item k) = by_size (nat_lt k (2 ^ n))
+  where
+    by_size : (b : Bool) → are_tests (cond b (Some (op.Eq, pos k)) None) ≡ true
+    by_size true = refl
+    by_size false = refl
+all_tests n (Last k) = by_size (nat_lt k (2 ^ n))
+  where
+    by_size : (b : Bool) → are_tests (cond b (Some (op.Ge, pos k)) None) ≡ true
+    by_size true = refl
+    by_size false = refl
+all_tests n (Key key) = refl
+all_tests n (NoKey key) = refl
+
+pub compared_test : (n : ℕ) (t : Test) (o : Op) (z : ℤ) → compared n t ≡ Some (o, z) → is_test o ≡ true
+compared_test n t o z e = sym (ap are_tests e) ∙ all_tests n t
+
+asked_is : (s : Shapes) (e : Term) (t : Test) → compared_term e (shape_of s e) (compared (shape_of s e).bits t) ≡ asked s e t
+asked_is s e Holds = refl
+asked_is s e Fails = refl
+asked_is s e (Item k) = by_size (nat_lt k (2 ^ (shape_of s e).bits))
+  where
+    by_size : (b : Bool) → compared_term e (shape_of s e) (cond b (Some (op.Eq, pos k)) None) ≡ cond b (tree.Binary op.Eq e (tree.Constant (pos k) (shape_of s e))) never
+    by_size true = refl
+    by_size false = refl
+asked_is s e (Last k) = by_size (nat_lt k (2 ^ (shape_of s e).bits))
+  where
+    by_size : (b : Bool) → compared_term e (shape_of s e) (cond b (Some (op.Ge, pos k)) None) ≡ cond b (tree.Binary op.Ge e (tree.Constant (pos k) (shape_of s e))) never
+    by_size true = refl
+    by_size false = refl
+asked_is s e (Key key) = refl
+asked_is s e (NoKey key) = refl
+
+asked_by : (d : Design) (of : Operand) (t : Test) (c : Option (Op × ℤ)) → HasShape d of → compared of.shape.bits t ≡ c → compared_term (term d of.id.place) of.shape c ≡ asked (shapes d) (term d of.id.place) t
+asked_by d of t c h e =
+    let own = term d of.id.place in
+    ap (compared_term own of.shape) (sym e) ∙ subst (λ (a : Shape). compared_term own a (compared a.bits t) ≡ asked (shapes d) own t) h.shape (asked_is (shapes d) own t)
+
+pub test_put : (old mid new : Design) (o : Op) (of : Operand) (number : ExprId) (id : ℕ) (z : ℤ) (t : Test) → HasShape old of → compared of.shape.bits t ≡ Some (o, z)
+    → TermPut old mid number.place (tree.Constant z of.shape) → TermPut mid new id (tree.Binary o (term mid of.id.place) (term mid number.place)) → TermPut old new id (asked (shapes old) (term old of.id.place) t)
+test_put old mid new o of number id z t h e p q =
+    put_is old new id _ _ (number_put old mid new o of.id number id (tree.Constant z of.shape) h.there p q) (asked_by old of t (Some (o, z)) h e)
+
+pub never_put : (old new : Design) (of : Operand) (id : ℕ) (t : Test) → HasShape old of → compared of.shape.bits t ≡ None → TermPut old new id never → TermPut old new id (asked (shapes old) (term old of.id.place) t)
+never_put old new of id t h e p = put_is old new id _ _ p (asked_by old of t None h e)
+
+-- what a test asks has one bit
+asked_one : (s : Shapes) (e : Term) (t : Test) → shape_of s (asked s e t) ≡ unsigned 1
+asked_one s e Holds = refl
+asked_one s e Fails = refl
+asked_one s e (Item k) = by_size (nat_lt k (2 ^ (shape_of s e).bits))
+  where
+    by_size : (b : Bool) → shape_of s (cond b (tree.Binary op.Eq e (tree.Constant (pos k) (shape_of s e))) never) ≡ unsigned 1
+    by_size true = refl
+    by_size false = refl
+asked_one s e (Last k) = by_size (nat_lt k (2 ^ (shape_of s e).bits))
+  where
+    by_size : (b : Bool) → shape_of s (cond b (tree.Binary op.Ge e (tree.Constant (pos k) (shape_of s e))) never) ≡ unsigned 1
+    by_size true = refl
+    by_size false = refl
+asked_one s e (Key key) = refl
+asked_one s e (NoKey key) = refl
+
+pub asked_bit : (old new : Design) (e : Term) (t : Test) (id : ℕ) → TermPut old new id (asked (shapes old) e t) → IsBit new id
+asked_bit old new e t id p = record {
+  there = p.within;
+  bit = ap (λ (s : Shapes). shape_of s (term new id)) (same_shapes old new p.grows.signals) ∙ ap (shape_of (shapes old)) p.tree ∙ asked_one (shapes old) e t;
+}
 
 pub bits_join : (d : Design) (left right : ExprId) → IsBit d left.place → IsBit d right.place → CanJoin d op.And left right
 bits_join d left right a b = record {

@@ -172,20 +172,3 @@ pub fn put_under(
     }
     Ok(())
 }
-
-/// Adds statements under a condition from a line.
-pub fn put_when(
-    alloc: Global,
-    draft: &mut PlainDraft,
-    cond: ExprId,
-    then_: &[Own],
-    line: u32,
-    out: &mut List<Own>,
-) -> Result<(), NoMemory>
-    requires out { AreOwned draft.old out.old }
-    requires cond { cond.place < length draft.old.exprs }
-    requires then_ { AreOwned draft.old then_.now }
-    ensures { OnOk result (PutUnder draft.old draft.new out.old out.new (term draft.old cond.place) then_.now [] line) }
-{
-    put_under(alloc, draft, cond, then_, &[], line, out)
-}

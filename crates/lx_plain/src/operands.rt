@@ -1,4 +1,4 @@
-//! Expressions of a draft with their shapes.
+//! Expressions of a draft with their shapes, and what is asked of them.
 
 ghost use Rattle.std.specs.Prelude.{◌≡◌, ◌<◌, length};
 
@@ -10,4 +10,21 @@ use lx_num::Shape;
 pub struct Operand {
     pub id: ExprId,
     pub shape: Shape,
+}
+
+/// What a condition asks of a number.
+#[derive(Clone, Copy)]
+pub enum Test {
+    /// It is not 0.
+    Holds,
+    /// It is 0.
+    Fails,
+    /// It is the number of an item, which it never is where that number has more bits.
+    Item(usize),
+    /// It is the number of the last item or more, which it never is where that number has more bits.
+    Last(usize),
+    /// It is a key, cut to its own shape.
+    Key(i128),
+    /// It is not that key.
+    NoKey(i128),
 }

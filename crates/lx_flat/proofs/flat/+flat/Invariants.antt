@@ -11,56 +11,53 @@ use Rattle.lx_flat.specs.Puts.{arms_inside, branches_inside, lines_for, lines_in
 use Rattle.lx_flat.proofs.flat.+flat.Given as goal
 
 abbrev pub decreases-put_flat : goal.decreases-put_flat
-decreases-put_flat l = 6 * l.id.place + 5
+decreases-put_flat l = 5 * l.stmt.id.place + 4
 
 abbrev pub decreases-put_flat_block : goal.decreases-put_flat_block
-decreases-put_flat_block l = 6 * l.bound
+decreases-put_flat_block l = 5 * l.stmts.bound
 
 abbrev pub decreases-put_block_when : goal.decreases-put_block_when
-decreases-put_block_when l = 6 * l.bound + 1
+decreases-put_block_when l = 5 * l.stmts.bound + 1
 
 abbrev pub decreases-put_if : goal.decreases-put_if
-decreases-put_if l = 6 * l.bound + 4
-
-abbrev pub decreases-put_several : goal.decreases-put_several
-decreases-put_several l = 6 * l.bound + 3
+decreases-put_if l = 5 * l.node.bound + 3
 
 abbrev pub decreases-put_lone : goal.decreases-put_lone
-decreases-put_lone l = 6 * l.bound + 1
+decreases-put_lone l = 5 * l.node.bound + 1
 
 abbrev pub decreases-put_chain : goal.decreases-put_chain
-decreases-put_chain l = 6 * l.bound + 2
+decreases-put_chain l = 5 * l.node.bound + 2
 
 abbrev pub decreases-put_case : goal.decreases-put_case
-decreases-put_case l = 6 * l.bound + 3
+decreases-put_case l = 5 * l.node.bound + 3
 
 abbrev pub decreases-put_arms : goal.decreases-put_arms
-decreases-put_arms l = 6 * l.bound + 2
+decreases-put_arms l = 5 * l.node.bound + 2
 
 abbrev pub decreases-put_otherwise : goal.decreases-put_otherwise
-decreases-put_otherwise l = 6 * l.bound + 2
+decreases-put_otherwise l = 5 * l.node.bound + 2
 
 abbrev pub invariant-put_flat_block-loop-id : goal.invariant-put_flat_block-loop-id
 invariant-put_flat_block-loop-id l =
     PutSome l.initial.draft l.draft l.initial.out l.out
-    (flat_block (shapes l.source.design) (block l.source.design l.ids))
-    (flat_block (shapes l.source.design) (block l.source.design (drop l.id-index l.ids)))
-    (lines_for l.source.design l.ids)
-    (lines_for l.source.design (drop l.id-index l.ids))
+    (flat_block (shapes l.stmts.source.now.design) (block l.stmts.source.now.design l.stmts.ids.now))
+    (flat_block (shapes l.stmts.source.now.design) (block l.stmts.source.now.design (drop l.id-index l.stmts.ids.now)))
+    (lines_for l.stmts.source.now.design l.stmts.ids.now)
+    (lines_for l.stmts.source.now.design (drop l.id-index l.stmts.ids.now))
 
 abbrev pub invariant-put_chain-loop-branch : goal.invariant-put_chain-loop-branch
 invariant-put_chain-loop-branch l =
     PutSome l.initial.draft l.draft l.initial.out l.out
-    (flat_chain (shapes l.source.design) (term l.initial.draft l.initial.none.place) (branches_at (designs.term l.source.design) (stmt l.source.design) l.branches) (flat_block (shapes l.source.design) (block l.source.design l.rest)))
-    (flat_chain (shapes l.source.design) (term l.draft l.none.place) (branches_at (designs.term l.source.design) (stmt l.source.design) (drop l.branch-index l.branches)) (flat_block (shapes l.source.design) (block l.source.design l.rest)))
-    (both_lines (branches_inside l.source.design true l.line l.branches) (lines_inside l.source.design true l.line l.rest))
-    (both_lines (branches_inside l.source.design true l.line (drop l.branch-index l.branches)) (lines_inside l.source.design true l.line l.rest))
+    (flat_chain (shapes l.node.source.now.design) (term l.initial.draft l.initial.none.place) (branches_at (designs.term l.node.source.now.design) (stmt l.node.source.now.design) l.node.branches.now) (flat_block (shapes l.node.source.now.design) (block l.node.source.now.design l.node.rest.now)))
+    (flat_chain (shapes l.node.source.now.design) (term l.draft l.none.place) (branches_at (designs.term l.node.source.now.design) (stmt l.node.source.now.design) (drop l.branch-index l.node.branches.now)) (flat_block (shapes l.node.source.now.design) (block l.node.source.now.design l.node.rest.now)))
+    (both_lines (branches_inside l.node.source.now.design true l.node.line l.node.branches.now) (lines_inside l.node.source.now.design true l.node.line l.node.rest.now))
+    (both_lines (branches_inside l.node.source.now.design true l.node.line (drop l.branch-index l.node.branches.now)) (lines_inside l.node.source.now.design true l.node.line l.node.rest.now))
     × IsBit l.draft l.none.place
 
 abbrev pub invariant-put_arms-loop-number : goal.invariant-put_arms-loop-number
 invariant-put_arms-loop-number l =
     PutSome l.initial.draft l.draft l.initial.out l.out
-    (arms_block (shapes l.source.design) (stmt l.source.design) (term l.initial.draft l.on.id.place) [] l.arms)
-    (arms_block (shapes l.source.design) (stmt l.source.design) (term l.initial.draft l.on.id.place) (seen_keys (take l.number l.arms)) (drop l.number l.arms))
-    (arms_inside l.source.design true l.line l.arms)
-    (arms_inside l.source.design true l.line (drop l.number l.arms))
+    (arms_block (shapes l.node.source.now.design) (stmt l.node.source.now.design) (term l.initial.draft l.node.keyed.on.id.place) [] l.node.keyed.arms.now)
+    (arms_block (shapes l.node.source.now.design) (stmt l.node.source.now.design) (term l.initial.draft l.node.keyed.on.id.place) (seen_keys (take l.number l.node.keyed.arms.now)) (drop l.number l.node.keyed.arms.now))
+    (arms_inside l.node.source.now.design true l.node.line l.node.keyed.arms.now)
+    (arms_inside l.node.source.now.design true l.node.line (drop l.number l.node.keyed.arms.now))

@@ -7,14 +7,14 @@ use Rattle.lx_flat.specs.Ready.{LowerStmts}
 use Rattle.lx_lower.proofs.fold.+after.Given as goal
 
 abbrev pub decreases-after_stmt : goal.decreases-after_stmt
-decreases-after_stmt l = 2 * l.id.place + 1
+decreases-after_stmt l = 2 * l.stmt.id.place + 1
 
 abbrev pub decreases-after_block : goal.decreases-after_block
-decreases-after_block l = 2 * l.bound
+decreases-after_block l = 2 * l.stmts.bound
 
 abbrev pub invariant-after_block-loop-id : goal.invariant-after_block-loop-id
 invariant-after_block-loop-id l = record {
-  rest : after_pieces l.x.0 l.pattern (taken_block (shapes l.known) zeros (block l.known (drop l.id-index l.ids))) ≡ after_pieces l.x.0 l.initial.pattern (taken_block (shapes l.known) zeros (block l.known l.ids));
-  lower : LowerStmts l.known l.bound (drop l.id-index l.ids);
-  free : AreForFree l.x.0 (block l.known (drop l.id-index l.ids));
+  rest : after_pieces l.x.0 l.pattern (taken_block (shapes l.stmts.known.now) zeros (block l.stmts.known.now (drop l.id-index l.stmts.ids.now))) ≡ after_pieces l.x.0 l.initial.pattern (taken_block (shapes l.stmts.known.now) zeros (block l.stmts.known.now l.stmts.ids.now));
+  lower : LowerStmts l.stmts.known.now l.stmts.bound (drop l.id-index l.stmts.ids.now);
+  free : AreForFree l.x.0 (block l.stmts.known.now (drop l.id-index l.stmts.ids.now));
 }

@@ -13,7 +13,7 @@ first_line-returns-else-as_slice-lt1 t c =
       | first_line-else-as_slice-lt1-via-then-as_slice-lt1 w ↦ none_first _ _ c.as_slice.ensures (grind arith)
       | first_line-else-as_slice-lt1-via-in-len1-up+else-not-is_empty w ↦ empty_first _ _ _ _ c.as_slice.ensures w.branch-item.is (grind arith)
     ] in
-    else_first _ _ _ _ _ _ _ _ _ (c.stmt.ensures.lines c.args.x.0) c.stmt.ensures.tree c.requires.alone c.in-If.is none _ c.as_slice-in-If-2.ensures c.first_line_in-in-If.ensures
+    else_first _ _ _ _ _ _ _ _ _ (c.stmt.ensures.lines c.args.x.0) c.stmt.ensures.tree c.requires c.in-If.is none _ c.as_slice-in-If-2.ensures c.first_line_in-in-If.ensures
 
 pub first_line_in-returns : goal.first_line_in-returns
 first_line_in-returns t c = first_in _ _ _ _ c.requires.some c.first_line.ensures
