@@ -1,6 +1,8 @@
 pub mod Arguments
 pub mod Calls
+pub mod Domains
 pub mod Exprs
+pub mod Fsms
 pub mod Numbers
 pub mod Objects
 pub mod Sequences

@@ -1,22 +1,34 @@
 -- Built-in names, worked by hand.
-use Rattle.std.specs.Prelude.{◌≡◌, ℕ, ℤ, pos, negsuc, true, false, List, [], ◌∷◌, length, map, codes, Some, None, Ok}
+use Rattle.std.specs.Prelude.{◌≡◌, ℕ, ℤ, Bool, pos, negsuc, ◌^◌, true, false, List, [], ◌∷◌, ◌++◌, length, map, codes, Option, Some, None, Result, Ok}
+use Rattle.lx_text.specs.declared.faults.Fault.{Fault}
 use Rattle.lx_text.specs.declared.faults.Kind.TheVariants as kind
 use Rattle.lx_num.specs.Ints.{shape}
 use Rattle.lx_num.specs.declared.Shape.{Shape}
-use Rattle.lx_fhdl.specs.Instance.{the_expr}
+use Rattle.lx_text.specs.declared.faults.LimitKind.TheVariants as limit
+use Rattle.lx_fhdl.specs.Instance.{the_expr, the_signal, the_target}
 use Rattle.lx_fhdl.specs.declared.design.Signal.{Signal}
 use Rattle.lx_fhdl.specs.declared.exprs.Expr.TheVariants as expr
 use Rattle.lx_state.specs.declared.machine.Binding.TheVariants as binding
 use Rattle.lx_state.specs.declared.machine.Leaves.TheVariants as leaves
 use Rattle.lx_state.specs.declared.machine.Machine.{Machine}
+use Rattle.lx_state.specs.declared.machine.Object.{Object}
+use Rattle.lx_state.specs.declared.machine.What.{What}
+use Rattle.lx_state.specs.declared.machine.What.TheVariants as what
+use Rattle.lx_state.specs.declared.machine.Fsm.{Fsm}
+use Rattle.lx_state.specs.declared.machine.Made.{Made}
+use Rattle.lx_state.specs.declared.machine.Form.{Form}
+use Rattle.lx_state.specs.declared.machine.Form.TheVariants as form
+use Rattle.lx_state.specs.declared.values.Method.{Method}
+use Rattle.lx_state.specs.declared.values.Method.TheVariants as method
 use Rattle.lx_state.specs.declared.values.Builtin.{Builtin}
 use Rattle.lx_state.specs.declared.values.Builtin.TheVariants as builtin
 use Rattle.lx_state.specs.declared.values.Value.{Value}
 use Rattle.lx_state.specs.declared.values.Value.TheVariants as value
 use Rattle.lx_state.specs.Step.{Outcome}
 use Rattle.lx_state.specs.Worked.{seen, spent, start}
+use Rattle.lx_objects.specs.Fsms.{new_fsm}
 use Rattle.lx_ops.specs.Worked.{a, at_nine, expr_at, int, some, top, value_of, values_at, w}
-use Rattle.lx_builtins.specs.Calls.{builtin_called}
+use Rattle.lx_builtins.specs.Calls.{builtin_called, method_called}
 use Rattle.lx_builtins.specs.Numbers.{steps_from}
 use Rattle.lx_builtins.specs.declared.arguments.Arguments.{Arguments}
 
@@ -49,6 +61,80 @@ named = record start {
   texts = codes "a b" ∷ codes "x" ∷ [];
   lists = record { values = int 4 ∷ int 1 ∷ []; depth = 1; leaves = leaves.Others; size = 0; named = binding.Nowhere } ∷ [];
 }
+
+-- with the texts "pix" and "1"
+abbrev pub crossing : Machine
+crossing = record some { texts = codes "pix" ∷ codes "1" ∷ [] }
+
+-- `MultiReg` with arguments that have names
+abbrev pub crossed : List Value → List (List ℕ) → List Value → Result Value Fault
+crossed placed names named = value_of (builtin_called 9 builtin.MultiReg (given placed names named) crossing)
+
+abbrev pub kinds : Machine → List What
+kinds m = map (λ (o : Object). o.what) m.objects
+
+abbrev pub a_clock_domain : Bool → What
+a_clock_domain reset = what.ClockDomain (record { reset = reset; bound = false })
+
+abbrev pub domain_names : Machine → List (List ℕ)
+domain_names m = map (λ e. e.0) m.domains
+
+-- Of `ClockDomain` and `MultiReg`.
+pub record AreClocked : Type 0 where
+  pub with_reset : seen kinds (call builtin.ClockDomain [] start) ≡ Ok (a_clock_domain true ∷ [])
+  pub without_reset : seen kinds (call builtin.ClockDomain (int 1 ∷ []) start) ≡ Ok (a_clock_domain false ∷ [])
+  pub with_a_name : value_of (builtin_called 9 builtin.ClockDomain (given [] (codes "name" ∷ []) (value.Text 0 ∷ [])) crossing) ≡ at_nine kind.WrongCount
+  -- two registers in `sys` where nothing else is said, of the shape of the value
+  pub two_registers : seen shapes (call builtin.MultiReg (a ∷ w ∷ []) crossing) ≡ Ok (shape 4 false ∷ shape 64 false ∷ shape 4 false ∷ shape 4 false ∷ [])
+  pub in_sys : seen domain_names (call builtin.MultiReg (a ∷ w ∷ []) crossing) ≡ Ok (codes "sys" ∷ [])
+  pub in_pix : seen domain_names (call builtin.MultiReg (int 5 ∷ w ∷ value.Text 0 ∷ int 1 ∷ []) crossing) ≡ Ok (codes "pix" ∷ [])
+  pub a_slice : crossed (a ∷ value.Expr (the_expr 2) ∷ []) [] [] ≡ at_nine kind.WrongKind
+  pub wide_integer : crossed (int (2 ^ 64) ∷ w ∷ []) [] [] ≡ at_nine kind.BadWidth
+  pub wider_integer : crossed (value.Int (negsuc (2 ^ 126)) ∷ w ∷ []) [] [] ≡ at_nine (kind.TooWide 128)
+  -- the argument that stands first has the first fault
+  pub first_placed : crossed (a ∷ w ∷ value.Text 1 ∷ int 0 ∷ []) [] [] ≡ at_nine kind.BadKey
+  pub first_named : crossed (a ∷ w ∷ []) (codes "n" ∷ codes "odomain" ∷ []) (int 0 ∷ value.Text 1 ∷ []) ≡ at_nine kind.BadWidth
+  pub below_zero : crossed (a ∷ w ∷ []) (codes "n" ∷ []) (minus 0 ∷ []) ≡ at_nine kind.BadWidth
+
+-- ---- state machines
+
+-- 65 bytes
+abbrev pub long : List ℕ
+long = codes "aaaaaaaaaaaaaaaaaaaaaaaaaaaaaaaa" ++ codes "aaaaaaaaaaaaaaaaaaaaaaaaaaaaaaaaa"
+
+-- with the texts "1 st" and that one, and an FSM without states
+abbrev pub staged : Machine
+staged = record some { texts = codes "1 st" ∷ long ∷ []; fsms = new_fsm 0 0 (the_signal 0) None ∷ [] }
+
+abbrev pub method_on : Method → List Value → Outcome Value
+method_on f placed = method_called 9 f (given placed [] []) staged
+
+abbrev pub starts : Machine → List (Option (List ℕ))
+starts m = map (λ (f : Fsm). f.start) m.fsms
+
+abbrev pub states : Machine → List (List (List ℕ × ℕ))
+states m = map (λ (f : Fsm). f.names) m.fsms
+
+abbrev pub forms : Machine → List Form
+forms m = map (λ (s : Made). s.form) m.made
+
+-- Of FSMs. The name of a state is any text of at most 64 bytes.
+pub record AreStaged : Type 0 where
+  pub no_start : seen starts (call builtin.Fsm [] (record staged { fsms = [] })) ≡ Ok (None ∷ [])
+  pub start_none : seen starts (call builtin.Fsm (value.Nothing ∷ []) (record staged { fsms = [] })) ≡ Ok (None ∷ [])
+  pub start_by_name : seen starts (builtin_called 9 builtin.Fsm (given [] (codes "reset_state" ∷ []) (value.Text 0 ∷ [])) (record staged { fsms = [] })) ≡ Ok (Some (codes "1 st") ∷ [])
+  pub start_integer : value_of (call builtin.Fsm (int 0 ∷ []) staged) ≡ at_nine kind.WrongKind
+  pub act : seen states (method_on (method.Act 0) (value.Text 0 ∷ [])) ≡ Ok (((codes "1 st", 0) ∷ []) ∷ [])
+  pub act_without_name : value_of (method_on (method.Act 0) []) ≡ at_nine kind.WrongCount
+  pub act_name_first : value_of (method_on (method.Act 0) (value.Text 1 ∷ int 0 ∷ [])) ≡ at_nine (kind.Limit limit.Name)
+  pub act_of_an_integer : value_of (method_on (method.Act 0) (value.Text 0 ∷ int 0 ∷ [])) ≡ at_nine kind.WrongKind
+  pub ongoing : value_of (method_on (method.Ongoing 0) (value.Text 0 ∷ [])) ≡ Ok (value.Expr (the_expr 4))
+  pub ongoing_of_two : value_of (method_on (method.Ongoing 0) (value.Text 0 ∷ value.Text 0 ∷ [])) ≡ at_nine kind.WrongCount
+  pub next_state : seen forms (call builtin.NextState (value.Text 0 ∷ []) staged) ≡ Ok (form.NextState 0 ∷ [])
+  pub next_state_long : value_of (call builtin.NextState (value.Text 1 ∷ []) staged) ≡ at_nine (kind.Limit limit.Name)
+  pub next_state_signal : value_of (call builtin.NextState (a ∷ []) staged) ≡ at_nine kind.WrongKind
+  pub next_value : seen forms (call builtin.NextValue (a ∷ w ∷ []) staged) ≡ Ok (form.NextValue (the_target 0) (the_expr 1) ∷ [])
+  pub next_value_of_one : value_of (call builtin.NextValue (a ∷ []) staged) ≡ at_nine kind.WrongCount
 
 pub record AreCounted : Type 0 where
   pub down : steps_from 9 (negsuc 1) (pos 5) (pos 0) ≡ pos 5 ∷ pos 3 ∷ pos 1 ∷ []

@@ -4,8 +4,8 @@ ghost use Rattle.std.specs.Prelude.{◌≡◌, [], ◌∷◌, IfOk, map, slice_g
 ghost use Rattle.lx_state.specs.Step.{Gives};
 ghost use Rattle.lx_builtins.specs.Arguments.{an_identifier, argument, bound_to, given, identifier_of, no_argument, one, one_or_two, optional, required, three, two, unnamed, value_of};
 
-use crate::texts::is_identifier;
 use lx_ops::Part;
+use lx_parts::is_identifier;
 use lx_state::work::fault;
 use lx_state::{Machine, Value};
 use lx_text::{Kind, List, NoMemory, Refusal, Word};
@@ -71,7 +71,7 @@ pub fn bound_to(
     ensures { Gives result machine.now (bound_to line params.now args.now machine.now) }
 {
     let _machine = machine;
-    if !are_bindable(params) {
+    if !are_bindable(alloc, params)? {
         return Err(fault(line, Kind::WrongCount));
     }
     match bind(alloc, params, args.placed.len(), args.names.as_slice()) {
@@ -108,8 +108,8 @@ pub fn no_argument(machine: &Machine, line: u32, args: &Arguments) -> Result<(),
     }
 }
 
-// A parameter that must be given.
-fn required(alloc: Global, name: &[u8]) -> Result<Param, NoMemory>
+/// A parameter that must be given.
+pub fn required(alloc: Global, name: &[u8]) -> Result<Param, NoMemory>
     ensures { IfOk result (λ param. param ≡ required name.now) }
 {
     Ok(Param {
@@ -140,8 +140,8 @@ pub fn argument(values: &[Option<Value>], place: usize) -> Option<Value>
     }
 }
 
-// An argument that must be there.
-fn given(
+/// An argument that must be there.
+pub fn given(
     machine: &Machine,
     line: u32,
     values: &[Option<Value>],

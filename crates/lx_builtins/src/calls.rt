@@ -5,7 +5,9 @@ ghost use Rattle.lx_state.specs.Step.{Gives};
 ghost use Rattle.lx_builtins.specs.Calls.{builtin_called, method_called};
 
 use crate::arguments::Arguments;
+use crate::domains::{clock_domain_called, multireg_called};
 use crate::exprs::{array_called, cat_called, constant_called, mux_called, replicate_called};
+use crate::fsms::{act_called, fsm_called, next_state_called, next_value_called, ongoing_called};
 use crate::numbers::{
     bits_for_called, int_called, log2_int_called, max_called, min_called, range_called, str_called,
 };
@@ -56,6 +58,11 @@ pub fn builtin_called(
         Builtin::Array => array_called(machine, alloc, line, args),
         Builtin::If => if_called(machine, alloc, line, args),
         Builtin::Case => case_called(machine, alloc, line, &args),
+        Builtin::ClockDomain => clock_domain_called(machine, alloc, line, &args),
+        Builtin::MultiReg => multireg_called(machine, alloc, line, &args),
+        Builtin::Fsm => fsm_called(machine, alloc, line, &args),
+        Builtin::NextState => next_state_called(machine, alloc, line, &args),
+        Builtin::NextValue => next_value_called(machine, alloc, line, &args),
         Builtin::WriteFirst => Err(fault(line, Kind::WrongKind)),
         Builtin::ReadFirst => Err(fault(line, Kind::WrongKind)),
         Builtin::NoChange => Err(fault(line, Kind::WrongKind)),
@@ -80,5 +87,7 @@ pub fn method_called(
         Method::Elif(at) => elif_called(machine, alloc, line, at, args),
         Method::Else(at) => else_called(machine, alloc, line, at, args),
         Method::Init(at) => init_called(machine, line, at, &args),
+        Method::Act(at) => act_called(machine, alloc, line, at, args),
+        Method::Ongoing(at) => ongoing_called(machine, alloc, line, at, &args),
     }
 }

@@ -3,12 +3,13 @@
 
 pub mod arguments;
 pub mod calls;
+pub mod domains;
 pub mod exprs;
+pub mod fsms;
 pub mod numbers;
 pub mod objects;
 pub mod sequences;
 pub mod signals;
-mod texts;
 pub mod worked;
 
 pub use arguments::Arguments;

@@ -101,8 +101,14 @@ fn shape_looked_at(machine: &Machine, alloc: Global, line: u32, value: Value) ->
     sized(machine, line, shape.bits)
 }
 
+/// Looks at a text that must be an identifier.
 #[tactic(auto, unfolding(crate::specs::Signals::name_looked_at))]
-fn name_looked_at(machine: &Machine, alloc: Global, line: u32, value: Value) -> Result<(), Refusal>
+pub fn name_looked_at(
+    machine: &Machine,
+    alloc: Global,
+    line: u32,
+    value: Value,
+) -> Result<(), Refusal>
     ensures { Gives result machine.now (name_looked_at line value machine.now) }
 {
     identifier_of(machine, alloc, line, value)?;
@@ -203,7 +209,8 @@ fn first_looked_at(
     }
 }
 
-fn integer_or(
+/// An integer, or what it is where it isn't given.
+pub fn integer_or(
     machine: &Machine,
     line: u32,
     missing: i128,

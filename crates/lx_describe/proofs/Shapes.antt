@@ -1,25 +1,27 @@
--- A design whose signals got their paths has the arenas that it had.
-use Rattle.std.proofs.Common.{◌≡◌, ℕ, ◌+◌, List, [], ◌∷◌, length, refl, sym, ap, ◌∙◌, subst, zero, suc}
-use Rattle.std.specs.Prelude.{map, slice_index_or}
-use Rattle.std.proofs.Math.Path.{fun_ext}
-use Rattle.std.proofs.lemmas.List.{length-map}
+-- A design whose signals got their paths, and the states of FSMs their bits, keeps what its arenas kept.
+use Rattle.std.proofs.Common.{◌≡◌, ℕ, ◌+◌, Bool, true, false, List, [], ◌∷◌, length, refl, sym, ap, ◌∙◌, subst, zero, suc, arith}
+use Rattle.std.specs.Prelude.{Option, Some, None, is_some, map, slice_get, slice_index_or}
+use Rattle.std.specs.List.{list_all}
+use Rattle.std.proofs.lemmas.Bool.{and_parts}
 use Rattle.lx_num.specs.declared.Shape.{Shape}
-use Rattle.lx_num.specs.Ints.{unsigned}
 use Rattle.lx_circuit.specs.Circuit.{nothing}
 use Rattle.lx_circuit.specs.Shapes.{Shapes}
 use Rattle.lx_fhdl.specs.Designs.{circuit_of, made_of, shapes}
 use Rattle.lx_fhdl.specs.Drafts.{DraftKeeps}
 use Rattle.lx_fhdl.specs.Keeping.{ArenasKeep}
-use Rattle.lx_fhdl.specs.Below.{StmtId}
 use Rattle.lx_fhdl.specs.declared.exprs.SigId.{SigId}
 use Rattle.lx_fhdl.specs.declared.design.Design.{Design}
 use Rattle.lx_fhdl.specs.declared.design.Domain.{Domain}
-use Rattle.lx_fhdl.specs.declared.design.Port.{Port}
 use Rattle.lx_fhdl.specs.declared.design.Signal.{Signal}
-use Rattle.lx_fhdl.specs.declared.design.SyncPart.{SyncPart}
+use Rattle.lx_fragments.specs.declared.fragments.Fragments.{Fragments}
+use Rattle.lx_state.specs.declared.machine.Fsm.{Fsm}
 use Rattle.lx_state.specs.declared.machine.Machine.{Machine}
 use Rattle.lx_kept.specs.Given.{HasArenas}
-use Rattle.lx_describe.specs.Signals.{SameShapes, named_signal, named_signals, with_path}
+use Rattle.lx_paths.specs.Paths.{owner_path}
+use Rattle.lx_describe.specs.Apart.{expr_passes, is_state, owner_fsm, states_are_apart, target_passes}
+use Rattle.lx_describe.specs.Describing.{design_of}
+use Rattle.lx_describe.specs.Signals.{named_signal, named_signals, with_bits, with_path}
+use Rattle.lx_describe.proofs.Unnamed.{SameElsewhere, arenas_kept}
 
 -- ---- signals
 
@@ -27,42 +29,49 @@ path_apart : (path : List (List ℕ)) (s : Signal) → (with_path path s).shape 
 path_apart [] s = refl
 path_apart (w ∷ ws) s = refl
 
-one_more : (s t : Signal) (ss ts : List Signal) → t.shape ≡ s.shape → SameShapes ss ts → SameShapes (s ∷ ss) (t ∷ ts)
-one_more s t ss ts e same = ap (λ (h : Shape). h ∷ map (λ (a : Signal). a.shape) ts) e ∙ ap (λ (hs : List Shape). s.shape ∷ hs) same
+bits_apart : (f : Option Fsm) (s : Signal) → is_some f ≡ false → with_bits f s ≡ s
+bits_apart None s e = refl
+bits_apart (Some f) s e = absurd (cc)
 
--- a path leaves the shape
-named_same : (m : Machine) (x : ℕ) (ss : List Signal) → SameShapes ss (named_signals m x ss)
+-- a path leaves the shape, and so do the bits where it is no state of an FSM
+one_same : (m : Machine) (x : ℕ) (s : Signal) → is_state m x ≡ false → (named_signal m x s).shape ≡ s.shape
+one_same m x s e =
+    ap (λ (t : Signal). t.shape) (bits_apart (owner_fsm m (slice_get m.owners x)) (with_path (owner_path m (slice_get m.owners x)) s) e)
+    ∙ path_apart (owner_path m (slice_get m.owners x)) s
+
+abbrev shape_at : List Signal → ℕ → Shape
+shape_at ss x = (slice_index_or (map made_of ss) x nothing).shape
+
+each_same : (m : Machine) (from k : ℕ) (ss : List Signal) → is_state m (from + k) ≡ false → shape_at (named_signals m from ss) k ≡ shape_at ss k
 unfolding named_signals
-named_same m x [] = refl
-named_same m x (s ∷ ss) = one_more s (named_signal m x s) ss (named_signals m (x + 1) ss) (path_apart _ s) (named_same m (x + 1) ss)
+each_same m from k [] e = refl
+each_same m from zero (s ∷ ss) e = let here : from + 0 ≡ from = omega arith in one_same m from s (ap (is_state m) (sym here) ∙ e)
+each_same m from (suc k) (s ∷ ss) e = let next : (from + 1) + k ≡ from + suc k = omega arith in each_same m (from + 1) k ss (ap (is_state m) next ∙ e)
 
--- the signals of a machine with their paths
-pub renamed : (m : Machine) (d : Design) (signals : List Signal) → d ≡ m.shaped → signals ≡ named_signals m 0 m.shaped.signals → SameShapes d.signals signals
-renamed m d signals e f = rw (e, f) (named_same m 0 m.shaped.signals)
+named_long : (m : Machine) (from : ℕ) (ss : List Signal) → length (named_signals m from ss) ≡ length ss
+unfolding named_signals
+named_long m from [] = refl
+named_long m from (s ∷ ss) = ap suc (named_long m (from + 1) ss)
 
 -- ---- designs
 
-shape_listed : (ss : List Signal) (x : ℕ) → (slice_index_or (map made_of ss) x nothing).shape ≡ slice_index_or (map (λ (s : Signal). s.shape) ss) x (unsigned 1)
-shape_listed [] x = refl
-shape_listed (s ∷ ss) zero = refl
-shape_listed (s ∷ ss) (suc x) = shape_listed ss x
-
-same_shape : (old new : List Signal) → SameShapes old new → (x : ℕ) → (slice_index_or (map made_of old) x nothing).shape ≡ (slice_index_or (map made_of new) x nothing).shape
-same_shape old new e x = shape_listed old x ∙ ap (λ (hs : List Shape). slice_index_or hs x (unsigned 1)) (sym e) ∙ sym (shape_listed new x)
-
-same_length : (old new : List Signal) → SameShapes old new → length old ≡ length new
-same_length old new e = sym (length-map old (λ (s : Signal). s.shape)) ∙ ap length (sym e) ∙ length-map new (λ (s : Signal). s.shape)
-
-same_shapes : (d e : Design) → SameShapes d.signals e.signals → shapes d ≡ shapes e
+same_elsewhere : (m : Machine) (d e : Design) → e.signals ≡ named_signals m 0 d.signals → SameElsewhere m (shapes d) (shapes e)
 unfolding circuit_of
-same_shapes d e same = fun_ext (same_shape d.signals e.signals same)
+same_elsewhere m d e is x h =
+    let from : 0 + x ≡ x = omega arith in
+    ap (λ (ss : List Signal). shape_at ss x) is ∙ each_same m 0 x d.signals (ap (is_state m) from ∙ h)
 
--- signals of the same shapes leave what the arenas keep
-pub finished : (d e : Design) (signals : List Signal) (comb : List StmtId) (sync : List SyncPart) (domains : List Domain) (ports : List Port) (ios : List SigId)
-    → e ≡ record d { comb = comb; sync = sync; domains = domains; ports = ports; ios = ios } → DraftKeeps d → SameShapes d.signals signals → HasArenas (record e { signals = signals })
-finished d e signals comb sync domains ports ios is keep same =
-    let whole : Design = record d { signals = signals; comb = comb; sync = sync; domains = domains; ports = ports; ios = ios } in
-    let arenas : HasArenas whole =
-    subst (λ (n : ℕ). ArenasKeep (shapes whole) n d.memories d.exprs d.targets d.stmts) (same_length d.signals signals same)
-    (subst (λ (s : Shapes). ArenasKeep s (length d.signals) d.memories d.exprs d.targets d.stmts) (same_shapes d whole same) keep.arenas) in
-    subst (λ (f : Design). HasArenas (record f { signals = signals })) (sym is) arenas
+-- the signals of a machine whose states are apart leave what the arenas keep
+pub finished : (m : Machine) (d e : Design) (signals : List Signal) (fragments : Fragments) (domains : List Domain) (ios : List SigId)
+    → states_are_apart m ≡ true → d ≡ m.shaped → DraftKeeps d → signals ≡ named_signals m 0 m.shaped.signals → e ≡ design_of d signals fragments domains ios → HasArenas e
+finished m d e signals fragments domains ios apart is keep named made =
+    let passes = and_parts (list_all (expr_passes m) m.shaped.exprs) (list_all (target_passes m) m.shaped.targets) apart in
+    let old : Design = m.shaped in
+    let whole : Design = design_of old (named_signals m 0 old.signals) fragments domains ios in
+    let kept : DraftKeeps old = subst DraftKeeps is keep in
+    let arenas : ArenasKeep (shapes whole) (length old.signals) old.memories old.exprs old.targets old.stmts =
+    arenas_kept m (shapes old) (shapes whole) (length old.signals) old.memories old.exprs old.targets old.stmts
+    (record { keep = kept.arenas; exprs = passes.0; targets = passes.1 }) (same_elsewhere m old whole refl) in
+    let has : HasArenas whole = subst (λ (n : ℕ). ArenasKeep (shapes whole) n old.memories old.exprs old.targets old.stmts) (sym (named_long m 0 old.signals)) arenas in
+    let same : e ≡ whole = made ∙ ap (λ (f : Design). design_of f signals fragments domains ios) is ∙ ap (λ (ss : List Signal). design_of old ss fragments domains ios) named in
+    subst HasArenas (sym same) has

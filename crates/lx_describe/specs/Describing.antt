@@ -2,6 +2,7 @@
 use Rattle.std.specs.Prelude.{ℕ, Bool, true, false, List, [], map, codes, slice_get, Option, Some, None, if◌then◌else◌}
 use Rattle.lx_text.specs.declared.faults.Kind.TheVariants as kind
 use Rattle.lx_fhdl.specs.declared.design.Design.{Design}
+use Rattle.lx_fhdl.specs.declared.design.Domain.{Domain}
 use Rattle.lx_fhdl.specs.declared.design.Signal.{Signal}
 use Rattle.lx_fhdl.specs.declared.exprs.SigId.{SigId}
 use Rattle.lx_state.specs.declared.values.Value.{Value}
@@ -9,15 +10,17 @@ use Rattle.lx_state.specs.declared.machine.Machine.{Machine}
 use Rattle.lx_state.specs.declared.machine.Module.{Module}
 use Rattle.lx_state.specs.declared.machine.ModuleKind.{ModuleKind}
 use Rattle.lx_state.specs.declared.machine.ModuleKind.TheVariants as bases
-use Rattle.lx_state.specs.declared.machine.Object.{Object}
 use Rattle.lx_state.specs.Step.{Step, give, fault, or_fault, reads, ◌>>=◌}
 use Rattle.lx_objects.specs.Ios.{ios_of}
 use Rattle.lx_objects.specs.Modules.{module_of, some_attribute}
 use Rattle.lx_fragments.specs.Domains.{domains_made, mention_of}
 use Rattle.lx_fragments.specs.Fragments.{fragments_of}
+use Rattle.lx_fragments.specs.declared.fragments.Fragments.{Fragments}
 use Rattle.lx_description.specs.declared.description.Description.{Description}
 use Rattle.lx_description.specs.Laws.{no_wishes}
 use Rattle.lx_describe.specs.declared.describing.Outline.{Outline}
+use Rattle.lx_describe.specs.Apart.{states_apart}
+use Rattle.lx_describe.specs.Fsms.{all_fsms, object_line}
 use Rattle.lx_describe.specs.Modules.{module_decls, module_text}
 use Rattle.lx_describe.specs.Order.{in_order}
 use Rattle.lx_describe.specs.Signals.{named_signals}
@@ -35,10 +38,6 @@ is_soc _ = false
 abbrev pub is_system : Option Module → Bool
 is_system None = false
 is_system (Some x) = is_soc x.kind
-
-abbrev pub object_line : Option Object → ℕ
-object_line None = 0
-object_line (Some o) = o.line
 
 abbrev pub module_line : Machine → Option Module → ℕ
 module_line m None = 0
@@ -69,26 +68,28 @@ outline_of v = do
   fragments ← fragments_of top
   mentioned ← reads (λ m. map mention_of m.domains)
   domains ← domains_made mentioned
-  give (record { top = top; ios = ios; fragments = fragments; domains = domains })
+  fsms ← all_fsms top
+  give (record { top = top; ios = ios; fragments = fragments; domains = domains; fsms = fsms })
 
-abbrev pub design_of : Design → Outline → List Signal → Design
-design_of d x signals = record d { signals = signals; comb = x.fragments.comb; sync = x.fragments.sync; domains = x.domains; ports = []; ios = x.ios }
+abbrev pub design_of : Design → List Signal → Fragments → List Domain → List SigId → Design
+design_of d signals fragments domains ios = record d { signals = signals; comb = fragments.comb; sync = fragments.sync; domains = domains; ports = []; ios = ios }
 
--- nothing but the circuit and its modules is built yet
+-- nothing but the circuit, its modules and its FSMs is built yet
 abbrev pub description_of : Machine → Outline → Description
 description_of m x = record {
   top = module_text m (slice_get m.modules x.top);
   soc = false;
-  design = design_of m.shaped x (named_signals m 0 m.shaped.signals);
+  design = design_of m.shaped (named_signals m 0 m.shaped.signals) x.fragments x.domains x.ios;
   modules = module_decls m (in_order m x.top);
   slaves = [];
   wishes = no_wishes;
   constants = [];
-  fsm_stmts = [];
-  fsms = [];
+  fsm_stmts = m.fsm_stmts;
+  fsms = x.fsms;
 }
 
 unfoldable pub described : Value → Step Description
 described v = do
   x ← outline_of v
+  _ ← states_apart
   reads (λ m. description_of m x)

@@ -1,5 +1,7 @@
 pub mod Answers
+pub mod Apart
 pub mod Describing
+pub mod Fsms
 pub mod Modules
 pub mod Order
 pub mod Signals

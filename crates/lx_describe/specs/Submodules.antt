@@ -4,7 +4,10 @@ use Rattle.std.specs.List.{list_any}
 use Rattle.lx_state.specs.declared.values.Value.{Value}
 use Rattle.lx_state.specs.declared.machine.Machine.{Machine}
 use Rattle.lx_state.specs.declared.machine.Module.{Module}
+use Rattle.lx_state.specs.declared.machine.Object.{Object}
 use Rattle.lx_state.specs.declared.machine.Submodule.{Submodule}
+use Rattle.lx_state.specs.declared.machine.What.{What}
+use Rattle.lx_state.specs.declared.machine.What.TheVariants as what
 use Rattle.lx_objects.specs.Modules.{module_of}
 
 -- ---- what attributes bind
@@ -46,11 +49,30 @@ unfoldable pub each_once : List Submodule → List Submodule → List Submodule
 each_once listed [] = listed
 each_once listed (x ∷ xs) = each_once (with_next x listed) xs
 
+-- ---- what stands for FSMs
+
+abbrev pub is_fsm : What → Bool
+is_fsm (what.Fsm k) = true
+is_fsm _ = false
+
+abbrev pub object_is_fsm : Option Object → Bool
+object_is_fsm None = false
+object_is_fsm (Some o) = is_fsm o.what
+
+abbrev pub stands_for_fsm : Machine → Option Module → Bool
+stands_for_fsm m None = false
+stands_for_fsm m (Some x) = object_is_fsm (slice_get m.objects x.object)
+
+-- an FSM is added as a module is, and is none
+abbrev pub own_modules : Machine → List Submodule → List Submodule
+own_modules m [] = []
+own_modules m (x ∷ xs) = if stands_for_fsm m (slice_get m.modules x.place) then own_modules m xs else x ∷ own_modules m xs
+
 -- ---- the submodules
 
 abbrev pub found : Machine → ℕ → Option Module → List Submodule
 found m at None = []
-found m at (Some x) = all_bound m at x.attributes ++ x.submodules
+found m at (Some x) = all_bound m at x.attributes ++ own_modules m x.submodules
 
 abbrev pub submodules : Machine → ℕ → List Submodule
 submodules m at = each_once [] (found m at (slice_get m.modules at))

@@ -1,5 +1,5 @@
 -- Descriptions of machines, worked by hand.
-use Rattle.std.specs.Prelude.{◌≡◌, ℕ, false, true, pos, List, [], ◌∷◌, codes, Option, Some, None, Result, Ok, Err}
+use Rattle.std.specs.Prelude.{◌≡◌, ℕ, false, true, pos, List, [], ◌∷◌, codes, map, Option, Some, None, Result, Ok, Err}
 use Rattle.lx_num.specs.Ints.{unsigned}
 use Rattle.lx_text.specs.declared.faults.Fault.{Fault}
 use Rattle.lx_text.specs.declared.faults.Kind.TheVariants as kind
@@ -12,8 +12,10 @@ use Rattle.lx_fhdl.specs.declared.stmts.Stmt.TheVariants as stmt
 use Rattle.lx_fhdl.specs.declared.stmts.Target.TheVariants as target
 use Rattle.lx_state.specs.declared.values.Value.{Value}
 use Rattle.lx_state.specs.declared.values.Value.TheVariants as value
+use Rattle.lx_state.specs.declared.machine.Form.{Form}
 use Rattle.lx_state.specs.declared.machine.Form.TheVariants as form
 use Rattle.lx_state.specs.declared.machine.Machine.{Machine}
+use Rattle.lx_state.specs.declared.machine.Made.{Made}
 use Rattle.lx_state.specs.declared.machine.Module.{Module}
 use Rattle.lx_state.specs.declared.machine.ModuleKind.{ModuleKind}
 use Rattle.lx_state.specs.declared.machine.ModuleKind.TheVariants as bases
@@ -23,9 +25,14 @@ use Rattle.lx_state.specs.declared.machine.What.{What}
 use Rattle.lx_state.specs.declared.machine.What.TheVariants as what
 use Rattle.lx_state.specs.Worked.{a_class, items}
 use Rattle.lx_description.specs.declared.description.Description.{Description}
+use Rattle.lx_description.specs.Instance.{the_fsm_stmt}
+use Rattle.lx_description.specs.declared.fsms.FsmDecl.{FsmDecl}
+use Rattle.lx_description.specs.declared.fsms.FsmPlace.{FsmPlace}
+use Rattle.lx_description.specs.declared.fsms.FsmStmt.TheVariants as fsm
 use Rattle.lx_description.specs.declared.modules.Part.TheVariants as part
 use Rattle.lx_description.specs.Laws.{no_wishes}
 use Rattle.lx_describe.specs.Answers.{answer}
+use Rattle.lx_describe.specs.Apart.{state_bits}
 use Rattle.lx_describe.specs.Describing.{described}
 use Rattle.lx_describe.specs.Order.{in_order}
 use Rattle.lx_describe.specs.Start.{start}
@@ -75,7 +82,7 @@ whole = record start {
       ∷ a_module 3 0 [] [] [] (Some 1)
       ∷ [];
   lists = items (value.Expr (the_expr 0) ∷ []) 1 ∷ [];
-  made = record { form = form.Assign (the_target 0) (the_expr 1); line = 5; size = 1; depth = 1 } ∷ [];
+  made = record { form = form.Assign (the_target 0) (the_expr 1); line = 5; size = 1; depth = 1; in_state = false } ∷ [];
   domains = (codes "sys", record { declared = false; reset = true }) ∷ [];
 }
 
@@ -130,6 +137,76 @@ empty_top = record {
   fsms = [];
 }
 
+-- ---- an FSM
+
+abbrev pub bit : ℕ → Signal
+bit line = record (unnamed line) { shape = unsigned 1 }
+
+abbrev pub fsm_design : Design
+fsm_design = record (started (bit 8 ∷ bit 9 ∷ unnamed 3 ∷ []) []) {
+  exprs = expr.Sig (the_signal 2) ∷ expr.Sig (the_signal 1) ∷ [];
+  targets = target.Whole (the_signal 2) ∷ [];
+}
+
+abbrev pub on_line : ℕ → Form → Made
+on_line line form_ = record { form = form_; line = line; size = 1; depth = 1; in_state = false }
+
+-- The top assigns its signal `a`, and added an FSM of three states, which it bound to `ctl`. In `A` it goes to `B`, in `B` it
+-- assigns `a` at the next rise; `ongoing("B")` was asked for.
+abbrev pub with_fsm : Machine
+with_fsm = record start {
+  classes = a_class (codes "Top") ∷ [];
+  shaped = fsm_design;
+  owners = record { object = 1; part = None } ∷ record { object = 1; part = Some (codes "B") } ∷ record { object = 2; part = None } ∷ [];
+  objects = an_object (what.Module 0) 1 None None None
+      ∷ an_object (what.Fsm 0) 8 (Some 0) (Some (codes "ctl")) None
+      ∷ an_object (what.Signal (the_signal 2)) 3 (Some 0) (Some (codes "a")) None
+      ∷ [];
+  modules = a_module 0 0 ((codes "ctl", value.Object 1) ∷ []) (0 ∷ []) (named_submodule 1 ∷ []) None
+      ∷ a_module 1 0 [] [] [] (Some 0)
+      ∷ [];
+  fsms = record {
+    object = 1;
+    «module» = 1;
+    state = the_signal 0;
+    start = Some (codes "B");
+    names = (codes "A", 0) ∷ (codes "B", 1) ∷ (codes "C", 2) ∷ [];
+    bodies = (1 ∷ []) ∷ (2 ∷ []) ∷ [] ∷ [];
+    asked = (codes "B", record { signal = the_signal 1; read = the_expr 1; line = 9 }) ∷ [];
+  } ∷ [];
+  texts = codes "B" ∷ [];
+  made = on_line 5 (form.Assign (the_target 0) (the_expr 0)) ∷ on_line 6 (form.NextState 0) ∷ on_line 7 (form.NextValue (the_target 0) (the_expr 0)) ∷ [];
+  domains = (codes "sys", record { declared = false; reset = true }) ∷ [];
+}
+
+-- `state` has two bits, and `ongoing` is named by the number of its state; no module is there but the top
+abbrev pub the_fsm : Description
+the_fsm = record empty_top {
+  design = record fsm_design {
+    signals = named_as (codes "ctl" ∷ codes "state" ∷ []) (record (bit 8) { shape = unsigned 2 }) ∷ named_as (codes "ctl" ∷ codes "ongoing_1" ∷ []) (bit 9) ∷ named_as (codes "a" ∷ []) (unnamed 3) ∷ reset ∷ [];
+    stmts = stmt.Assign (the_target 0) (the_expr 0) 5 ∷ [];
+    comb = the_stmt 0 ∷ [];
+    domains = record { name = codes "sys"; reset = Some (the_signal 3) } ∷ [];
+  };
+  fsm_stmts = fsm.NextState (codes "B") 6 ∷ fsm.NextValue (the_target 0) (the_expr 0) 7 ∷ [];
+  fsms = record {
+    state = the_signal 0;
+    start = Some (codes "B");
+    states = record { name = codes "A"; body = the_fsm_stmt 0 ∷ [] } ∷ record { name = codes "B"; body = the_fsm_stmt 1 ∷ [] } ∷ record { name = codes "C"; body = [] } ∷ [];
+    asked = record { name = codes "B"; signal = the_signal 1; line = 9 } ∷ [];
+    place = Some (record { comb = 1; sync = 0 });
+    line = 8;
+  } ∷ [];
+}
+
+-- the FSM, and no module beside it, is nowhere
+abbrev pub added_nowhere : Machine
+added_nowhere = record with_fsm { modules = a_module 0 0 [] (0 ∷ []) [] None ∷ a_module 1 0 [] [] [] None ∷ [] }
+
+abbrev pub its_places : Result Description Fault → Result (List (Option FsmPlace)) Fault
+its_places (Ok d) = Ok (map (λ (f : FsmDecl). f.place) d.fsms)
+its_places (Err f) = Err f
+
 abbrev pub read : Machine → Value → Result Description Fault
 read m top = answer (described top m)
 
@@ -144,3 +221,14 @@ pub record AreDescribed : Type 0 where
   pub ports_of_no_list : read (a_top bases.Plain ((codes "ios", value.Int (pos 1)) ∷ [])) (value.Object 0) ≡ Err (record { line = 0; kind = kind.WrongKind })
   pub system : read (a_top bases.Soc []) (value.Object 0) ≡ Err (record { line = 7; kind = kind.NotYetBuilt })
   pub no_module : read whole (value.Object 4) ≡ Err (record { line = 0; kind = kind.WrongKind })
+  pub fsm : read with_fsm (value.Object 0) ≡ Ok the_fsm
+  pub fsm_nowhere : its_places (read added_nowhere (value.Object 0)) ≡ Ok (None ∷ [])
+  -- an expression that names its state, and a target that does
+  pub state_named : read (record with_fsm { shaped = record fsm_design { exprs = expr.Sig (the_signal 2) ∷ expr.Sig (the_signal 0) ∷ [] } }) (value.Object 0) ≡ Err (record { line = 0; kind = kind.NotYetBuilt })
+  pub state_assigned : read (record with_fsm { shaped = record fsm_design { targets = target.Whole (the_signal 2) ∷ target.Part (the_signal 0) 0 1 ∷ [] } }) (value.Object 0) ≡ Err (record { line = 0; kind = kind.NotYetBuilt })
+  -- the bits of so many states
+  pub no_states : state_bits 0 ≡ 1
+  pub two_states : state_bits 2 ≡ 1
+  pub three_states : state_bits 3 ≡ 2
+  pub five_states : state_bits 5 ≡ 3
+  pub most_states : state_bits 256 ≡ 8

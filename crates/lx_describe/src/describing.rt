@@ -1,21 +1,23 @@
 //! The description of a machine in which the top was made.
 
-ghost use Rattle.std.specs.Prelude.{[], ◌≡◌, IfOk, codes, slice_get};
+ghost use Rattle.std.specs.Prelude.{◌≡◌, IfOk, codes, slice_get, true};
 ghost use Rattle.lx_objects.specs.Modules.{some_attribute};
 ghost use Rattle.lx_describe.specs.Answers.{Answers, answer};
-ghost use Rattle.lx_describe.specs.Describing.{described, description_of, design_of, is_soc, is_system, module_line, object_line, outline_of, plain_top, some_ios, top_ios, top_of};
+ghost use Rattle.lx_describe.specs.Apart.{states_are_apart};
+ghost use Rattle.lx_describe.specs.Describing.{described, description_of, design_of, is_soc, is_system, module_line, outline_of, plain_top, some_ios, top_ios, top_of};
 ghost use Rattle.lx_describe.specs.Modules.{module_decls};
 ghost use Rattle.lx_describe.specs.Order.{in_order};
-ghost use Rattle.lx_describe.specs.Signals.{SameShapes};
 ghost use Rattle.lx_description.specs.Laws.{no_wishes};
+ghost use Rattle.lx_fhdl.specs.Drafts.{DraftKeeps};
 ghost use Rattle.lx_kept.specs.Given.{HasArenas};
 ghost use Rattle.lx_state.specs.Step.{Gives};
 
+use crate::apart::states_apart;
+use crate::fsms::{all_fsms, object_line};
 use crate::modules::{module_decls, module_text};
 use crate::order::in_order;
 use crate::signals::named_signals;
-use lx_arena::Arena;
-use lx_description::{Description, ModuleDecl};
+use lx_description::{Description, FsmDecl, FsmStmts, ModuleDecl};
 use lx_fhdl::{Design, Domain, SigId, Signal, Wishes};
 use lx_fragments::domains::{domains_made, mentions};
 use lx_fragments::fragments::{Fragments, fragments_of};
@@ -58,15 +60,6 @@ fn is_system(machine: &Machine, at: usize) -> bool
     match machine.modules.get(at) {
         Some(module) => is_soc(module.kind),
         None => false,
-    }
-}
-
-fn object_line(machine: &Machine, at: usize) -> u32
-    ensures { result ≡ object_line (slice_get machine.now.objects at) }
-{
-    match machine.objects.get(at) {
-        Some(object) => object.line,
-        None => 0,
     }
 }
 
@@ -135,6 +128,7 @@ pub struct Outline {
     pub ios: List<SigId>,
     pub fragments: Fragments,
     pub domains: List<Domain>,
+    pub fsms: List<FsmDecl>,
 }
 
 // The resets of the domains are the last signals.
@@ -148,26 +142,28 @@ fn outline_of(machine: &mut Machine, alloc: Global, value: Value) -> Result<Outl
     let fragments = fragments_of(machine, alloc, top)?;
     let mentioned = mentions(machine, alloc)?;
     let domains = domains_made(machine, alloc, mentioned.as_slice())?;
+    let fsms = all_fsms(machine, alloc, top)?;
     Ok(Outline {
         top,
         ios,
         fragments,
         domains,
+        fsms,
     })
 }
 
-// These signals have the shapes of the draft's.
-fn design_of(shaped: Shaped, alloc: Global, outline: Outline, signals: List<Signal>) -> Design
-    requires { SameShapes shaped.signals signals }
-    ensures is { result ≡ design_of shaped outline signals }
-    ensures arenas { HasArenas result }
+// A design of a draft with these signals.
+fn design_of(
+    shaped: Shaped,
+    alloc: Global,
+    signals: List<Signal>,
+    fragments: Fragments,
+    domains: List<Domain>,
+    ios: List<SigId>,
+) -> Design
+    ensures is { result ≡ design_of shaped signals fragments domains ios }
+    ensures keeps { DraftKeeps shaped }
 {
-    let Outline {
-        ios,
-        fragments,
-        domains,
-        ..
-    } = outline;
     let Fragments { comb, sync } = fragments;
     let design = shaped.finish(comb, sync, domains, List::new(alloc), ios);
     Design { signals, ..design }
@@ -187,24 +183,33 @@ fn description_of(
     alloc: Global,
     outline: Outline,
 ) -> Result<Description, NoMemory>
+    requires { states_are_apart machine.old ≡ true }
     ensures is { IfOk result (λ description. description ≡ description_of machine.old outline) }
     ensures arenas { IfOk result (λ description. HasArenas description.design) }
 {
-    let top = module_text(machine, alloc, outline.top)?;
-    let modules = all_decls(machine, alloc, outline.top)?;
-    let signals = named_signals(machine, alloc)?;
-    let shaped = mem::replace(&mut machine.shaped, Shaped::new(alloc));
-    let design = design_of(shaped, alloc, outline, signals);
-    Ok(Description {
+    let Outline {
         top,
+        ios,
+        fragments,
+        domains,
+        fsms,
+    } = outline;
+    let name = module_text(machine, alloc, top)?;
+    let modules = all_decls(machine, alloc, top)?;
+    let signals = named_signals(machine, alloc)?;
+    let fsm_stmts = mem::replace(&mut machine.fsm_stmts, FsmStmts::new(alloc));
+    let shaped = mem::replace(&mut machine.shaped, Shaped::new(alloc));
+    let design = design_of(shaped, alloc, signals, fragments, domains, ios);
+    Ok(Description {
+        top: name,
         soc: false,
         design,
         modules,
         slaves: List::new(alloc),
         wishes: no_wishes(alloc),
         constants: List::new(alloc),
-        fsm_stmts: Arena::new(alloc),
-        fsms: List::new(alloc),
+        fsm_stmts,
+        fsms,
     })
 }
 
@@ -216,6 +221,7 @@ pub fn described(machine: &mut Machine, alloc: Global, value: Value) -> Result<D
     ensures arenas { IfOk result (λ description. HasArenas description.design) }
 {
     let outline = outline_of(machine, alloc, value)?;
+    states_apart(machine)?;
     let description = description_of(machine, alloc, outline)?;
     Ok(description)
 }

@@ -1,7 +1,9 @@
 //! What a description says at its end: the circuit and the modules of a machine in which the top was made.
 #![tactic(auto)]
 
+mod apart;
 pub mod describing;
+mod fsms;
 pub mod modules;
 pub mod order;
 pub mod signals;

@@ -1,11 +1,13 @@
-//! The signals of a design with their paths.
+//! The signals of a design with their paths, and the bits of those that are the `state` of an FSM.
 
-ghost use Rattle.std.specs.Prelude.{◌≡◌, ◌++◌, ◌∷◌, [], IfOk, OnOk};
-ghost use Rattle.lx_describe.specs.Signals.{named_signal, named_signals, with_path};
+ghost use Rattle.std.specs.Prelude.{◌≡◌, ◌++◌, ◌∷◌, [], IfOk, OnOk, option_copied};
+ghost use Rattle.lx_describe.specs.Signals.{named_signal, named_signals, with_bits, with_path};
 
+use crate::apart::{owner_fsm, state_bits};
 use lx_fhdl::Signal;
+use lx_num::Shape;
 use lx_paths::paths::signal_path;
-use lx_state::machine::Machine;
+use lx_state::machine::{Fsm, Machine};
 use lx_text::{List, NoMemory, Word};
 use std::alloc::Global;
 
@@ -53,6 +55,22 @@ fn with_path(alloc: Global, path: List<Word>, signal: &Signal) -> Result<Signal,
     })
 }
 
+// A signal that is the `state` of an FSM has bits for all its states.
+fn with_bits(fsm: Option<&Fsm>, signal: Signal) -> Signal
+    ensures { result ≡ with_bits (option_copied fsm.entry) signal }
+{
+    match fsm {
+        Some(fsm) => Signal {
+            shape: Shape {
+                bits: state_bits(fsm.names.len()),
+                signed: false,
+            },
+            ..signal
+        },
+        None => signal,
+    }
+}
+
 // Adds the signal at a place with its path.
 fn push_named(
     into: &mut List<Signal>,
@@ -65,10 +83,10 @@ fn push_named(
 {
     let path = signal_path(machine, alloc, place)?;
     let named = with_path(alloc, path, signal)?;
-    into.push(named)
+    into.push(with_bits(owner_fsm(machine, place), named))
 }
 
-/// The signals of the design with their paths.
+/// The signals of the design with their paths; the `state` of an FSM has bits for all its states.
 #[tactic(auto, unfolding(crate::specs::Signals::named_signals))]
 pub fn named_signals(machine: &Machine, alloc: Global) -> Result<List<Signal>, NoMemory>
     ensures { IfOk result (λ signals. signals ≡ named_signals machine.now 0 machine.now.shaped.signals) }

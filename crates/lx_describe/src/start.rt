@@ -3,9 +3,10 @@
 ghost use Rattle.std.specs.Prelude.{◌≡◌};
 ghost use Rattle.lx_describe.specs.Start.{start};
 
+use lx_arena::Arena;
 use lx_names::Table;
 use lx_shaped::Shaped;
-use lx_state::machine::{Frame, Machine};
+use lx_state::machine::{Frame, Machine, Specials};
 use lx_text::List;
 use lx_value::Budget;
 use std::alloc::Global;
@@ -22,11 +23,17 @@ pub fn start(alloc: Global) -> Machine
         owners: List::new(alloc),
         objects: List::new(alloc),
         modules: List::new(alloc),
+        fsms: List::new(alloc),
         texts: List::new(alloc),
         lists: List::new(alloc),
         dictionaries: List::new(alloc),
         made: List::new(alloc),
+        fsm_stmts: Arena::new(alloc),
         domains: Table::new(alloc),
+        specials: Specials {
+            comb: List::new(alloc),
+            sync: List::new(alloc),
+        },
         frame: Frame {
             locals: Table::new(alloc),
             this: None,

@@ -1,12 +1,11 @@
 //! The submodules of a module.
 
-ghost use Rattle.std.specs.Prelude.{◌≡◌, ◌++◌, [], IfOk, OnOk, slice_get};
+ghost use Rattle.std.specs.Prelude.{◌≡◌, ◌++◌, ◌∷◌, [], IfOk, OnOk, slice_get};
 ghost use Rattle.lx_objects.specs.Modules.{module_of};
-ghost use Rattle.lx_describe.specs.Submodules.{all_bound, bound_at, bound_module, each_once, found, is_below, is_listed, is_place, submodules, with_next};
+ghost use Rattle.lx_describe.specs.Submodules.{all_bound, bound_at, bound_module, each_once, found, is_below, is_listed, is_place, object_is_fsm, own_modules, stands_for_fsm, submodules, with_next};
 
-use lx_fragments::copies::push_all;
 use lx_objects::modules::module_of;
-use lx_state::machine::{Machine, Module, Submodule};
+use lx_state::machine::{Machine, Module, Submodule, What};
 use lx_state::values::Value;
 use lx_text::{List, NoMemory};
 use std::alloc::Global;
@@ -82,6 +81,59 @@ fn push_all_bound(
     Ok(())
 }
 
+// ---- what stands for FSMs
+
+fn object_is_fsm(machine: &Machine, at: usize) -> bool
+    ensures { result ≡ object_is_fsm (slice_get machine.now.objects at) }
+{
+    match machine.objects.get(at) {
+        Some(object) => match object.what {
+            What::Fsm(_) => true,
+            What::Signal(_) | What::Module(_) | What::ClockDomain(_) | What::MultiReg => false,
+        },
+        None => false,
+    }
+}
+
+fn stands_for_fsm(machine: &Machine, at: usize) -> bool
+    ensures { result ≡ stands_for_fsm machine.now (slice_get machine.now.modules at) }
+{
+    match machine.modules.get(at) {
+        Some(module) => object_is_fsm(machine, module.object),
+        None => false,
+    }
+}
+
+// Adds a submodule, unless it stands for an FSM.
+fn push_own(
+    into: &mut List<Submodule>,
+    machine: &Machine,
+    submodule: Submodule,
+) -> Result<(), NoMemory>
+    ensures { OnOk result (into.new ≡ into.old ++ own_modules machine.now (submodule ∷ [])) }
+{
+    if stands_for_fsm(machine, submodule.place) {
+        return Ok(());
+    }
+    into.push(submodule)
+}
+
+// Adds those submodules that are modules.
+fn push_own_modules(
+    into: &mut List<Submodule>,
+    machine: &Machine,
+    submodules: &[Submodule],
+) -> Result<(), NoMemory>
+    ensures { OnOk result (into.new ≡ into.old ++ own_modules machine.now submodules.now) }
+{
+    for submodule in submodules {
+        push_own(into, machine, *submodule)?;
+    }
+    Ok(())
+}
+
+// ---- the submodules
+
 // The submodules of a module, some of them more than once.
 fn found(machine: &Machine, alloc: Global, at: usize) -> Result<List<Submodule>, NoMemory>
     ensures { IfOk result (λ list. list ≡ found machine.now at (slice_get machine.now.modules at)) }
@@ -89,7 +141,7 @@ fn found(machine: &Machine, alloc: Global, at: usize) -> Result<List<Submodule>,
     let mut list = List::new(alloc);
     if let Some(above) = machine.modules.get(at) {
         push_all_bound(&mut list, machine, at, above)?;
-        push_all(&mut list, above.submodules.as_slice())?;
+        push_own_modules(&mut list, machine, above.submodules.as_slice())?;
     }
     Ok(list)
 }

@@ -1,2 +1,4 @@
+mod Checked
+mod Flat
 mod Same
 mod Tested

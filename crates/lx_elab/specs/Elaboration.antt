@@ -1,7 +1,8 @@
 -- Elaboration.
-use Rattle.std.specs.Prelude.{List, Result, Ok, Err, if◌then◌else◌}
+use Rattle.std.specs.Prelude.{Bool, true, false, ◌&&◌, List, Result, Ok, Err}
 use Rattle.lx_text.specs.declared.faults.Fault.{Fault}
 use Rattle.lx_text.specs.declared.faults.Kind.TheVariants as kind
+use Rattle.lx_alloc.specs.Judged.{first}
 use Rattle.lx_fhdl.specs.Kept.{is_kept}
 use Rattle.lx_syntax.specs.Ast as ast
 use Rattle.lx_state.specs.Step.{◌>>=◌}
@@ -9,18 +10,38 @@ use Rattle.lx_description.specs.declared.description.Description.{Description}
 use Rattle.lx_describe.specs.Answers.{answer}
 use Rattle.lx_describe.specs.Describing.{described}
 use Rattle.lx_describe.specs.Start.{start}
+use Rattle.lx_fsm_kept.specs.Stand.{fsms_stand}
 use Rattle.lx_run.specs.Classes.{description_run}
+use Rattle.lx_elab.specs.Fsms.{bodies_there, fsm_faults, unless}
 
 -- What a text with these classes describes, or its first fault: the top is made under a machine in which nothing was made,
 -- and what the machine holds then is described.
 abbrev pub untested : List ast.Class → Result Description Fault
 untested classes = answer ((description_run classes >>= described) start)
 
--- a description whose design doesn't keep what designs keep is not built; none is known
-abbrev pub kept : Result Description Fault → Result Description Fault
-kept (Ok d) = if is_kept d.design then Ok d else Err (record { line = 0; kind = kind.NotYetBuilt })
-kept (Err f) = Err f
+-- ---- what is tested at the end
+
+-- a description that fails a test is not built; none is known that fails one
+abbrev pub built : Bool → Description → Result Description Fault
+built true d = Ok d
+built false d = Err (record { line = 0; kind = kind.NotYetBuilt })
+
+-- the design keeps what designs keep, and the statements of all states are there
+abbrev pub kept : Description → Result Description Fault
+kept d = built (is_kept d.design && bodies_there d) d
+
+-- the first fault of the FSMs in order of creation is told, whether they were added or not
+abbrev pub checked : Description → Result Description Fault
+checked d = unless d (first (fsm_faults d))
+
+-- the FSMs are such as descriptions have
+abbrev pub stood : Description → Result Description Fault
+stood d = built (fsms_stand d) d
+
+abbrev pub after : (Description → Result Description Fault) → Result Description Fault → Result Description Fault
+after f (Ok d) = f d
+after f (Err e) = Err e
 
 -- The description of a text with these classes, whose design keeps what designs keep; or its first fault.
 abbrev pub elaborated : List ast.Class → Result Description Fault
-elaborated classes = kept (untested classes)
+elaborated classes = after stood (after checked (after kept (untested classes)))

@@ -2,6 +2,7 @@
 #![tactic(auto)]
 
 mod elaboration;
+mod fsms;
 pub mod worked;
 
 pub use elaboration::elaborate;

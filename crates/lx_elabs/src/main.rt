@@ -3,6 +3,7 @@
 #![tactic(auto)]
 
 mod exprs;
+mod fsms;
 mod pieces;
 mod sheet;
 mod stmts;

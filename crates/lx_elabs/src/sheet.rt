@@ -1,6 +1,7 @@
 //! A description: its modules, and its circuit.
 
 use crate::exprs::{put_all_targets, put_nodes};
+use crate::fsms::put_fsms;
 use crate::pieces::{put, put_line, put_path, put_signals, put_stmts};
 use crate::stmts::put_all_stmts;
 use lx_description::{Description, ModuleDecl, Part};
@@ -99,5 +100,6 @@ pub(crate) fn put_description(description: &Description, out: &mut Text) -> Resu
     for (place, module) in description.modules.as_slice().iter().enumerate() {
         put_module(place, module, out)?;
     }
-    put_design(&description.design, out)
+    put_design(&description.design, out)?;
+    put_fsms(description, out)
 }

@@ -1,2 +1,4 @@
+mod Bodies
 pub mod Chains
 pub mod Mentions
+mod Placed

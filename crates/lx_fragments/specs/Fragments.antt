@@ -49,12 +49,13 @@ lay_parts (item ∷ items) = do
   parts ← lay_parts items
   give (record { domain = item.domain; stmts = id ∷ [] } ∷ parts)
 
--- the fragment of a module, with those of all modules below it; no chain of modules is longer than 64
+-- the statements of what takes part once it is made, then the fragment of a module with those of all modules below it; no
+-- chain of modules is longer than 64, and what stands for an FSM may stand below
 unfoldable pub fragments_of : ℕ → Step Fragments
 fragments_of top = do
-  places ← reads (λ m. under m.modules 64 top)
-  made ← reads (λ m. all_comb m.modules places)
-  items ← reads (λ m. all_sync m.modules places)
+  places ← reads (λ m. under m.modules 65 top)
+  made ← reads (λ m. m.specials.comb ++ all_comb m.modules places)
+  items ← reads (λ m. m.specials.sync ++ all_sync m.modules places)
   comb ← lay_out made
   sync ← lay_parts items
   give (record { comb = comb; sync = sync })

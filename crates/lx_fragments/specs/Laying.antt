@@ -23,7 +23,7 @@ statement_at line at m = or_fault (slice_get m.made at) line kind.WrongKind m
 -- the branch before an `Elif`
 abbrev pub before : Option Made → Option ℕ
 before None = None
-before (Some s) = elim s.form as (λ _. Option ℕ) [ form.Assign t v ↦ None | form.If b c body ↦ b | form.Else b body ↦ None | form.Case on arms rest ↦ None ]
+before (Some s) = elim s.form as (λ _. Option ℕ) [ form.Assign t v ↦ None | form.If b c body ↦ b | form.Else b body ↦ None | form.Case on arms rest ↦ None | form.NextState name ↦ None | form.NextValue t v ↦ None ]
 
 -- a branch and those before it, at most n
 unfoldable pub chain : List Made → ℕ → Option ℕ → List ℕ
@@ -86,6 +86,8 @@ lay_form line block at (form.Assign target source) = put_stmt line (stmt.Assign 
 lay_form line block at (form.If before cond body) = lay_if line block at []
 lay_form line block at (form.Else before body) = lay_if line block before body
 lay_form line block at (form.Case on arms rest) = lay_case line block on arms rest
+-- what stands in a state of an FSM alone
+lay_form line block at _ = fault line kind.WrongKind
 
 unfoldable pub lay_all : (ℕ → Step StmtId) → List ℕ → Step (List StmtId)
 lay_all f [] = give []

@@ -57,6 +57,11 @@ fn form_copied(alloc: Global, form: &Form) -> Result<Form, NoMemory>
             arms: arms_copied(alloc, arms.as_slice())?,
             rest: copied(alloc, rest)?,
         }),
+        Form::NextState { name } => Ok(Form::NextState { name: *name }),
+        Form::NextValue { target, value } => Ok(Form::NextValue {
+            target: *target,
+            value: *value,
+        }),
     }
 }
 
@@ -70,5 +75,6 @@ pub fn made_copied(alloc: Global, made: &Made) -> Result<Made, NoMemory>
         line: made.line,
         size: made.size,
         depth: made.depth,
+        in_state: made.in_state,
     })
 }

@@ -7,6 +7,7 @@ ghost use Rattle.lx_fragments.specs.Fragments.{all_comb, all_sync, all_under, co
 use crate::copies::push_all;
 use crate::laying::{lay, lay_out};
 use lx_fhdl::{StmtId, SyncPart};
+use lx_state::lists::copied;
 use lx_state::machine::{Machine, Module, Submodule, SyncItem};
 use lx_text::{List, NoMemory, Refusal};
 use std::alloc::Global;
@@ -68,12 +69,12 @@ fn push_all_under(
     Ok(())
 }
 
-/// The modules that stand at a place and below.
+/// The modules that stand at a place and below, with what stands for FSMs there.
 pub fn under(machine: &Machine, alloc: Global, top: usize) -> Result<List<usize>, NoMemory>
-    ensures { IfOk result (λ places. places ≡ under machine.now.modules 64 top) }
+    ensures { IfOk result (λ places. places ≡ under machine.now.modules 65 top) }
 {
     let mut places = List::new(alloc);
-    push_under(&mut places, &machine.modules, 64, top)?;
+    push_under(&mut places, &machine.modules, 65, top)?;
     Ok(places)
 }
 
@@ -86,11 +87,12 @@ fn push_comb(into: &mut List<usize>, modules: &List<Module>, at: usize) -> Resul
     }
 }
 
+// The combinatorial statements of what takes part once it is made, then those of modules.
 #[tactic(auto, unfolding(crate::specs::Fragments::all_comb))]
 fn all_comb(machine: &Machine, alloc: Global, places: &[usize]) -> Result<List<usize>, NoMemory>
-    ensures { IfOk result (λ made. made ≡ all_comb machine.now.modules places.now) }
+    ensures { IfOk result (λ made. made ≡ machine.now.specials.comb ++ all_comb machine.now.modules places.now) }
 {
-    let mut made = List::new(alloc);
+    let mut made = copied(alloc, &machine.specials.comb)?;
     for at in places {
         push_comb(&mut made, &machine.modules, *at)?;
     }
@@ -106,11 +108,12 @@ fn push_sync(into: &mut List<SyncItem>, modules: &List<Module>, at: usize) -> Re
     }
 }
 
+// The synchronous statements of what takes part once it is made, then those of modules.
 #[tactic(auto, unfolding(crate::specs::Fragments::all_sync))]
 fn all_sync(machine: &Machine, alloc: Global, places: &[usize]) -> Result<List<SyncItem>, NoMemory>
-    ensures { IfOk result (λ items. items ≡ all_sync machine.now.modules places.now) }
+    ensures { IfOk result (λ items. items ≡ machine.now.specials.sync ++ all_sync machine.now.modules places.now) }
 {
-    let mut items = List::new(alloc);
+    let mut items = copied(alloc, &machine.specials.sync)?;
     for at in places {
         push_sync(&mut items, &machine.modules, *at)?;
     }

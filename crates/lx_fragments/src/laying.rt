@@ -30,7 +30,11 @@ fn before(machine: &Machine, at: usize) -> Option<usize>
     match machine.made.get(at) {
         Some(made) => match made.form {
             Form::If { before, .. } => before,
-            Form::Assign { .. } | Form::Else { .. } | Form::Case { .. } => None,
+            Form::Assign { .. }
+            | Form::Else { .. }
+            | Form::Case { .. }
+            | Form::NextState { .. }
+            | Form::NextValue { .. } => None,
         },
         None => None,
     }
@@ -57,7 +61,11 @@ fn chain(machine: &Machine, alloc: Global, last: usize) -> Result<Vec<usize>, No
 }
 
 // The branches of an `If` up to one, in the order of the text.
-fn branches_to(machine: &Machine, alloc: Global, last: usize) -> Result<List<usize>, NoMemory>
+pub(crate) fn branches_to(
+    machine: &Machine,
+    alloc: Global,
+    last: usize,
+) -> Result<List<usize>, NoMemory>
     ensures { IfOk result (λ places. places ≡ branches_to machine.now last) }
 {
     let mut places = chain(machine, alloc, last)?;
@@ -118,6 +126,7 @@ fn lay_form(
             arms.as_slice(),
             rest.as_slice(),
         ),
+        Form::NextState { .. } | Form::NextValue { .. } => Err(fault(line, Kind::WrongKind)),
     }
 }
 
@@ -186,9 +195,11 @@ fn lay_branch(
             let body = lay_all(machine, alloc, levels, line, body.as_slice())?;
             Ok(Branch { cond, body })
         }
-        Form::Assign { .. } | Form::Else { .. } | Form::Case { .. } => {
-            Err(fault(line, Kind::WrongKind))
-        }
+        Form::Assign { .. }
+        | Form::Else { .. }
+        | Form::Case { .. }
+        | Form::NextState { .. }
+        | Form::NextValue { .. } => Err(fault(line, Kind::WrongKind)),
     }
 }
 

@@ -5,4 +5,6 @@ pub mod copies;
 pub mod domains;
 pub mod fragments;
 pub mod laying;
+pub mod places;
+pub mod states;
 pub mod worked;

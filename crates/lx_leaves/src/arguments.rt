@@ -37,7 +37,7 @@ pub(crate) fn run(
 ) -> Result<bool, NoMemory> {
     match key {
         "param" => add_param(alloc, rest, &mut case.params),
-        "bindable" => answer_truth(out, are_bindable(case.params.as_slice())),
+        "bindable" => answer_truth(out, are_bindable(alloc, case.params.as_slice())?),
         "bind" => show_bound(alloc, rest, case.params.as_slice(), out),
         "spend" => show_spent(rest, &mut case.budget, out),
         _ => Ok(false),
@@ -66,7 +66,7 @@ fn show_bound(
     let Ok(placed) = placed.parse::<usize>() else {
         return Ok(false);
     };
-    if !are_bindable(params) {
+    if !are_bindable(alloc, params)? {
         return Ok(false);
     }
     let keys = words(alloc, names)?;

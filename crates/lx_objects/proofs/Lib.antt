@@ -1,1 +1,3 @@
 pub mod Behind
+mod Keys
+mod Longer

@@ -15,7 +15,7 @@ use Rattle.lx_objects.specs.declared.cases.Cases.{Cases}
 use Rattle.lx_state.specs.Lists.{deeper, sizes_of}
 use Rattle.lx_state.specs.Step.{Step, give, fault, reads, ◌>>=◌}
 use Rattle.lx_state.specs.Work.{spend_nodes}
-use Rattle.lx_objects.specs.Statements.{all_of, deepest_made, keep_made, node_sum, only}
+use Rattle.lx_objects.specs.Statements.{all_of, any_in_state, deepest_made, keep_made, node_sum, only}
 
 -- ---- keys
 
@@ -38,6 +38,10 @@ same_key (Some a) (Some b) = int_eq a b
 same_key None None = true
 same_key _ _ = false
 
+-- the key behind those seen, where it isn't there
+abbrev pub with_key : Key → List Key → List Key
+with_key key seen = if list_any (same_key key) seen then seen else seen ++ key ∷ []
+
 abbrev pub new_key : ℕ → List Key → Option Key → Step Key
 new_key line seen None = fault line kind.BadKey
 new_key line seen (Some key) = if list_any (same_key key) seen then fault line kind.BadKey else give key
@@ -50,7 +54,7 @@ case_key line seen v m = new_key line seen (key_of m v) m
 unfoldable pub pair_fits : ℕ → List Key → Pair → Step Key
 pair_fits line seen p = do
   key ← case_key line seen p.key
-  _ ← only leaves.Statements line (p.value ∷ [])
+  _ ← only leaves.StateStatements line (p.value ∷ [])
   give key
 
 -- pair by pair
@@ -74,7 +78,7 @@ with_case _ body cases = record cases { rest = body }
 
 unfoldable pub add_case : ℕ → Cases → Pair → Step Cases
 add_case line cases p = do
-  body ← all_of leaves.Statements line (p.value ∷ [])
+  body ← all_of leaves.StateStatements line (p.value ∷ [])
   reads (λ m. with_case (key_of m p.key) body (deepened (deepest_made m body) cases))
 
 unfoldable pub add_cases : ℕ → Cases → List Pair → Step Cases
@@ -95,4 +99,5 @@ case_made line on pairs = do
   _ ← spend_nodes line size
   cases ← add_cases line no_cases pairs
   depth ← deeper line cases.depth
-  keep_made (record { form = form.Case on cases.arms cases.rest; line = line; size = size; depth = depth })
+  in_state ← reads (λ m. any_in_state m (map pair_value pairs))
+  keep_made (record { form = form.Case on cases.arms cases.rest; line = line; size = size; depth = depth; in_state = in_state })

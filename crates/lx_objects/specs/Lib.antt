@@ -1,5 +1,8 @@
 pub mod Cases
+pub mod Crossings
+pub mod Domains
 pub mod Exprs
+pub mod Fsms
 pub mod Ios
 pub mod Modules
 pub mod Signals

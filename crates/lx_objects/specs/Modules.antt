@@ -1,13 +1,12 @@
 -- Modules: their attributes, and what is added to them.
-use Rattle.std.specs.Prelude.{◌≡◌, ℕ, zero, suc, Bool, true, false, ◌+◌, nat_lt, List, [], ◌∷◌, ◌++◌, length, map, slice_get, Option, Some, None, if◌then◌else◌}
-use Rattle.lx_text.specs.Limits.{limit_number}
-use Rattle.lx_text.specs.declared.faults.LimitKind.{LimitKind}
+use Rattle.std.specs.Prelude.{◌≡◌, ℕ, zero, suc, Bool, true, false, ◌+◌, ◌-◌, nat_lt, List, [], ◌∷◌, ◌++◌, length, map, slice_get, Option, Some, None, if◌then◌else◌}
 use Rattle.lx_text.specs.declared.faults.LimitKind.TheVariants as limit
 use Rattle.lx_text.specs.declared.faults.Kind.TheVariants as kind
-use Rattle.lx_names.specs.Tables.{look_up, place_of, with_name}
+use Rattle.lx_names.specs.Tables.{look_up, with_name}
 use Rattle.lx_state.specs.declared.values.Value.{Value}
 use Rattle.lx_state.specs.declared.values.Value.TheVariants as value
 use Rattle.lx_state.specs.declared.machine.Binding.TheVariants as binding
+use Rattle.lx_state.specs.declared.machine.Fsm.{Fsm}
 use Rattle.lx_state.specs.declared.machine.Leaves.TheVariants as leaves
 use Rattle.lx_state.specs.declared.machine.Machine.{Machine}
 use Rattle.lx_state.specs.declared.machine.Module.{Module}
@@ -18,14 +17,11 @@ use Rattle.lx_state.specs.declared.machine.SyncItem.{SyncItem}
 use Rattle.lx_state.specs.declared.machine.What.{What}
 use Rattle.lx_state.specs.declared.machine.What.TheVariants as what
 use Rattle.lx_state.specs.Naming.{bind_name, object_made}
+use Rattle.lx_objects.specs.Domains.{declare_bound, mention}
 use Rattle.lx_objects.specs.Statements.{all_of, only, statements_of}
 use Rattle.lx_state.specs.Changes.{changed}
 use Rattle.lx_state.specs.Step.{Step, give, fault, or_fault, ◌>>=◌}
-use Rattle.lx_state.specs.Work.{name_fits}
-
--- where so many are there already, one more may come
-unfoldable pub one_more : ℕ → LimitKind → ℕ → Step (Unit {0})
-one_more line what count m = if nat_lt count (limit_number what) then give tt m else fault line (kind.Limit what) m
+use Rattle.lx_state.specs.Work.{name_fits, one_more}
 
 -- ---- modules
 
@@ -35,10 +31,14 @@ new_module object class kind_ = record { object = object; class = class; kind = 
 unfoldable pub keep_module : ℕ → ℕ → ModuleKind → Step ℕ
 keep_module object class kind_ m = give (length m.modules) (record m { modules = m.modules ++ new_module object class kind_ ∷ [] })
 
+-- what stands among the modules for an FSM counts as none of them
+abbrev pub module_count : Machine → ℕ
+module_count m = length m.modules - length m.fsms
+
 -- a module, without attributes, with nothing added
 unfoldable pub module_made : ℕ → ℕ → ModuleKind → Step ℕ
 module_made line class kind_ m = (do
-  _ ← one_more line limit.Modules (length m.modules)
+  _ ← one_more line limit.Modules (module_count m)
   object ← object_made (what.Module (length m.modules)) line None
   keep_module object class kind_) m
 
@@ -60,14 +60,36 @@ with_attribute name v x = record x { attributes = with_name x.attributes name v 
 
 -- ---- submodules
 
+abbrev pub module_of_what : What → Option ℕ
+module_of_what (what.Module at) = Some at
+module_of_what _ = None
+
 abbrev pub module_of_object : Option Object → Option ℕ
 module_of_object None = None
-module_of_object (Some o) = elim o.what as (λ _. Option ℕ) [ what.Signal s ↦ None | what.Module x ↦ Some x ]
+module_of_object (Some o) = module_of_what o.what
 
 -- the module that a value is
 abbrev pub module_of : Machine → Value → Option ℕ
 module_of m (value.Object at) = module_of_object (slice_get m.objects at)
 module_of m _ = None
+
+abbrev pub module_of_fsm : Option Fsm → Option ℕ
+module_of_fsm None = None
+module_of_fsm (Some f) = Some f.«module»
+
+abbrev pub added_of_what : Machine → What → Option ℕ
+added_of_what m (what.Module at) = Some at
+added_of_what m (what.Fsm k) = module_of_fsm (slice_get m.fsms k)
+added_of_what m _ = None
+
+abbrev pub added_of_object : Machine → Option Object → Option ℕ
+added_of_object m None = None
+added_of_object m (Some o) = added_of_what m o.what
+
+-- the module that is added where a value is: itself, or what stands for an FSM
+abbrev pub added_of : Machine → Value → Option ℕ
+added_of m (value.Object at) = added_of_object m (slice_get m.objects at)
+added_of m _ = None
 
 abbrev pub with_room : ℕ → Module → Module
 with_room room x = record x { room = room }
@@ -116,9 +138,9 @@ abbrev pub add_some : ℕ → ℕ → Bool → Option ℕ → Step (Unit {0})
 add_some line to named None = give tt
 add_some line to named (Some at) = add_module line to named at
 
--- what an object is, where it is a module
+-- an object, where it is a module or an FSM
 unfoldable pub add_object : ℕ → ℕ → Bool → ℕ → Step (Unit {0})
-add_object line to named object m = add_some line to named (module_of_object (slice_get m.objects object)) m
+add_object line to named object m = add_some line to named (added_of_object m (slice_get m.objects object)) m
 
 unfoldable pub add_objects : ℕ → ℕ → List ℕ → Step (Unit {0})
 add_objects line to [] = give tt
@@ -144,12 +166,13 @@ abbrev pub is_adding : Option Module → Bool
 is_adding None = false
 is_adding (Some x) = adds_by_binding x.kind
 
--- in a `LiteXModule` and in a `SoCCore` a module that is bound is added by its name
+-- in a `LiteXModule` and in a `SoCCore` a module or an FSM that is bound is added by its name
 unfoldable pub add_bound : ℕ → ℕ → Value → Step (Unit {0})
-add_bound line at v m = if is_adding (slice_get m.modules at) then add_some line at true (module_of m v) m else give tt m
+add_bound line at v m = if is_adding (slice_get m.modules at) then add_some line at true (added_of m v) m else give tt m
 
 unfoldable pub bind_attribute : ℕ → ℕ → List ℕ → Value → Step (Unit {0})
 bind_attribute line at name v = do
+  _ ← declare_bound line name v
   _ ← name_fits line name
   _ ← bind_name binding.Attribute name v
   change_module at (with_attribute name v)
@@ -168,22 +191,8 @@ with_comb made x = record x { comb = x.comb ++ made }
 -- `self.comb += v`
 unfoldable pub add_comb : ℕ → ℕ → Value → Step (Unit {0})
 add_comb line at v = do
-  found ← statements_of line 0 (v ∷ [])
+  found ← statements_of leaves.Statements line 0 (v ∷ [])
   change_module at (with_comb found.0)
-
--- a domain that wasn't mentioned before; it has a reset until it is declared without one
-unfoldable pub new_domain : ℕ → List ℕ → Step ℕ
-new_domain line name m = (do
-  _ ← one_more line limit.Domains (length m.domains)
-  λ n. give (length m.domains) (record n { domains = with_name n.domains name (record { declared = false; reset = true }) })) m
-
-abbrev pub place_among : Option ℕ → ℕ → List ℕ → Step ℕ
-place_among (Some place) line name = give place
-place_among None line name = new_domain line name
-
--- the place of a domain, which is mentioned by this
-unfoldable pub mention : ℕ → List ℕ → Step ℕ
-mention line name m = place_among (place_of m.domains name) line name m
 
 abbrev pub sync_items : ℕ → List ℕ → List SyncItem
 sync_items domain made = map (λ at. record { domain = domain; made = at }) made
@@ -204,5 +213,5 @@ add_in line at name made = if nat_lt 0 (length made) then add_some_in line at na
 -- `self.sync.name += v`, and `self.sync += v` for the domain `sys`
 unfoldable pub add_sync : ℕ → ℕ → List ℕ → Value → Step (Unit {0})
 add_sync line at name v = do
-  found ← statements_of line 0 (v ∷ [])
+  found ← statements_of leaves.Statements line 0 (v ∷ [])
   add_in line at name found.0

@@ -11,8 +11,8 @@ use Rattle.lx_state.specs.declared.values.Value.{Value}
 use Rattle.lx_state.specs.declared.values.Value.TheVariants as value
 use Rattle.lx_state.specs.Naming.{object_made}
 use Rattle.lx_state.specs.Step.{Step, give, reads, ◌>>=◌}
+use Rattle.lx_state.specs.Work.{one_more}
 use Rattle.lx_objects.specs.Exprs.{put, put_expr}
-use Rattle.lx_objects.specs.Modules.{one_more}
 
 unfoldable pub put_signal : ℕ → Signal → Step SigId
 put_signal line x m = put line (make_signal x m.shaped).0 (make_signal x m.shaped).1 m

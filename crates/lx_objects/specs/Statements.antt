@@ -1,5 +1,5 @@
 -- Statements of FHDL as a description makes them, and what hangs in lists.
-use Rattle.std.specs.Prelude.{◌≡◌, ℕ, zero, suc, Bool, true, false, ◌+◌, max, nat_lt, List, [], ◌∷◌, ◌++◌, length, slice_get, Option, Some, None, Result, Ok, Err, if◌then◌else◌}
+use Rattle.std.specs.Prelude.{◌≡◌, ℕ, zero, suc, Bool, true, false, ◌||◌, ◌+◌, max, nat_lt, List, [], ◌∷◌, ◌++◌, length, slice_get, Option, Some, None, Result, Ok, Err, if◌then◌else◌}
 use Rattle.lx_text.specs.declared.faults.LimitKind.TheVariants as limit
 use Rattle.lx_text.specs.declared.faults.Kind.TheVariants as kind
 use Rattle.lx_text.specs.declared.faults.Fault.{Fault}
@@ -9,6 +9,7 @@ use Rattle.lx_text.specs.Limits.{limit_number}
 use Rattle.lx_fhdl.specs.Below.{ExprId, TargetId}
 use Rattle.lx_state.specs.declared.values.Value.{Value}
 use Rattle.lx_state.specs.declared.values.Value.TheVariants as value
+use Rattle.lx_state.specs.declared.machine.Form.{Form}
 use Rattle.lx_state.specs.declared.machine.Form.TheVariants as form
 use Rattle.lx_state.specs.declared.machine.Items.{Items}
 use Rattle.lx_state.specs.declared.machine.Leaves.{Leaves}
@@ -27,13 +28,21 @@ use Rattle.lx_state.specs.Work.{spend_nodes, within}
 abbrev pub are_all : Leaves → Leaves → Bool
 are_all leaves.Statements leaves.Nothing = true
 are_all leaves.Statements leaves.Statements = true
+are_all leaves.StateStatements leaves.Nothing = true
+are_all leaves.StateStatements leaves.Statements = true
+are_all leaves.StateStatements leaves.StateStatements = true
 are_all leaves.Modules leaves.Nothing = true
 are_all leaves.Modules leaves.Modules = true
+are_all leaves.ClockDomains leaves.Nothing = true
+are_all leaves.ClockDomains leaves.ClockDomains = true
+are_all leaves.Specials leaves.Nothing = true
+are_all leaves.Specials leaves.Specials = true
 are_all _ _ = false
 
 -- the place of a statement, or of an object
 abbrev pub leaf_place : Leaves → Value → Option ℕ
 leaf_place leaves.Statements (value.Made at) = Some at
+leaf_place leaves.StateStatements (value.Made at) = Some at
 leaf_place leaves.Modules (value.Object at) = Some at
 leaf_place _ _ = None
 
@@ -108,14 +117,14 @@ only what line values m = if are_all what (all_leaves m values) then give tt m e
 unfoldable pub node_sum : ℕ → ℕ → ℕ → Step ℕ
 node_sum line a b m = if nat_lt (limit_number limit.Nodes) (a + b) then fault line (kind.Limit limit.Nodes) m else give (a + b) m
 
--- the statements in values, which count their nodes and some more
-unfoldable pub statements_of : ℕ → ℕ → List Value → Step (List ℕ × ℕ)
-statements_of line own values = do
-  _ ← only leaves.Statements line values
+-- the statements of a kind in values, which count their nodes and some more
+unfoldable pub statements_of : Leaves → ℕ → ℕ → List Value → Step (List ℕ × ℕ)
+statements_of what line own values = do
+  _ ← only what line values
   size ← reads (λ m. sizes_of m values)
   total ← node_sum line own size
   _ ← spend_nodes line total
-  made ← all_of leaves.Statements line values
+  made ← all_of what line values
   give (made, total)
 
 abbrev pub made_depth : Option Made → ℕ
@@ -126,32 +135,55 @@ abbrev pub deepest_made : Machine → List ℕ → ℕ
 deepest_made m [] = 0
 deepest_made m (at ∷ ats) = max (made_depth (slice_get m.made at)) (deepest_made m ats)
 
+abbrev pub is_in_state : Leaves → Bool
+is_in_state leaves.StateStatements = true
+is_in_state _ = false
+
+-- whether one of the statements in values stands in a state of an FSM alone
+abbrev pub any_in_state : Machine → List Value → Bool
+any_in_state m values = is_in_state (all_leaves m values)
+
 -- the body of an `If` or an `Else`
 unfoldable pub body_made : ℕ → ℕ → List Value → Step Body
 body_made line own values = do
-  found ← statements_of line own values
+  found ← statements_of leaves.StateStatements line own values
   below ← reads (λ m. deepest_made m found.0)
   depth ← deeper line below
-  give (record { made = found.0; size = found.1; depth = depth })
+  in_state ← reads (λ m. any_in_state m values)
+  give (record { made = found.0; size = found.1; depth = depth; in_state = in_state })
 
 unfoldable pub keep_made : Made → Step Value
 keep_made s m = give (value.Made (length m.made)) (record m { made = m.made ++ s ∷ [] })
 
--- an assignment: a node and one for each target inside its target, a level and one for each around a target
-unfoldable pub assign_made : ℕ → TargetId → ExprId → ℕ → ℕ → Step Value
-assign_made line target source inside levels = do
+-- what assigns: a node and one for each target inside its target, a level and one for each around a target
+unfoldable pub keep_assigning : ℕ → Form → Bool → ℕ → ℕ → Step Value
+keep_assigning line form_ in_state inside levels = do
   size ← node_sum line 1 inside
   _ ← spend_nodes line size
   depth ← deeper line levels
-  keep_made (record { form = form.Assign target source; line = line; size = size; depth = depth })
+  keep_made (record { form = form_; line = line; size = size; depth = depth; in_state = in_state })
+
+-- an assignment
+unfoldable pub assign_made : ℕ → TargetId → ExprId → ℕ → ℕ → Step Value
+assign_made line target source inside levels = keep_assigning line (form.Assign target source) false inside levels
+
+-- `NextValue`, which counts as an assignment does
+unfoldable pub next_value_made : ℕ → TargetId → ExprId → ℕ → ℕ → Step Value
+next_value_made line target source inside levels = keep_assigning line (form.NextValue target source) true inside levels
+
+-- `NextState` of the name at a place among the texts
+unfoldable pub next_state_made : ℕ → ℕ → Step Value
+next_state_made line name = do
+  _ ← spend_nodes line 1
+  keep_made (record { form = form.NextState name; line = line; size = 1; depth = 1; in_state = true })
 
 unfoldable pub if_made : ℕ → ExprId → List Value → Step Value
 if_made line condition values = do
   body ← body_made line 1 values
-  keep_made (record { form = form.If None condition body.made; line = line; size = body.size; depth = body.depth })
+  keep_made (record { form = form.If None condition body.made; line = line; size = body.size; depth = body.depth; in_state = body.in_state })
 
 abbrev pub outline : Option Made → Option Outline
-outline (Some s) = Some (record { line = s.line; size = s.size; depth = s.depth })
+outline (Some s) = Some (record { line = s.line; size = s.size; depth = s.depth; in_state = s.in_state })
 outline None = None
 
 abbrev pub outline_of : ℕ → ℕ → Step Outline
@@ -163,11 +195,11 @@ elif_made line before condition values = do
   first ← outline_of line before
   body ← body_made line 0 values
   size ← node_sum line first.size body.size
-  keep_made (record { form = form.If (Some before) condition body.made; line = first.line; size = size; depth = max first.depth body.depth })
+  keep_made (record { form = form.If (Some before) condition body.made; line = first.line; size = size; depth = max first.depth body.depth; in_state = first.in_state || body.in_state })
 
 unfoldable pub else_made : ℕ → ℕ → List Value → Step Value
 else_made line before values = do
   first ← outline_of line before
   body ← body_made line 0 values
   size ← node_sum line first.size body.size
-  keep_made (record { form = form.Else before body.made; line = first.line; size = size; depth = max first.depth body.depth })
+  keep_made (record { form = form.Else before body.made; line = first.line; size = size; depth = max first.depth body.depth; in_state = first.in_state || body.in_state })

@@ -1,12 +1,13 @@
 //! `Case` of FHDL: its keys, and the statements under them.
 
-ghost use Rattle.std.specs.Prelude.{[], ◌≡◌, IfOk, map, slice_get, suc};
+ghost use Rattle.std.specs.Prelude.{[], ◌≡◌, IfOk, OnOk, map, slice_get, suc};
 ghost use Rattle.std.specs.List.{list_any};
 ghost use Rattle.lx_state.specs.Step.{Gives};
-ghost use Rattle.lx_objects.specs.Cases.{add_case, add_cases, case_key, case_made, deepened, default_key, key_of, keys_fit, no_cases, pair_fits, pair_value, same_key, with_case};
+ghost use Rattle.lx_objects.specs.Cases.{add_case, add_cases, case_key, case_made, deepened, default_key, key_of, keys_fit, no_cases, pair_fits, pair_value, same_key, with_case, with_key};
 ghost use Rattle.lx_objects.specs.Statements.{node_sum};
 
-use crate::statements::{all_of, deepest_made, keep_made, only};
+use crate::statements::{all_of, any_in_state, deepest_made, keep_made, only};
+use indexmap::IndexSet;
 use lx_fhdl::ExprId;
 use lx_state::machine::{Form, Leaves, Machine, Made, MadeArm, Pair};
 use lx_state::values::Value;
@@ -14,6 +15,7 @@ use lx_state::work::{fault, limit};
 use lx_text::faults::greatest;
 use lx_text::{Kind, LimitKind, List, NoMemory, Refusal};
 use std::alloc::Global;
+use std::marker::Model;
 
 /// The arms of a `Case`, the statements where no key matches, and the levels of the deepest.
 #[derive(Drop)]
@@ -50,26 +52,43 @@ fn key_of(machine: &Machine, value: Value) -> Option<Option<i128>>
     }
 }
 
-fn same_key(first: Option<i128>, second: Option<i128>) -> bool
-    ensures { result ≡ same_key first second }
-{
-    match (first, second) {
-        (Some(a), Some(b)) => a == b,
-        (None, None) => true,
-        (Some(_), None) => false,
-        (None, Some(_)) => false,
-    }
+// Keys that were seen, each once, found in constant time on the average. A contract sees the list of them.
+#[derive(Drop)]
+struct Seen {
+    set: IndexSet<Option<i128>>,
 }
 
-fn is_seen(key: Option<i128>, seen: &[Option<i128>]) -> bool
-    ensures { result ≡ list_any (same_key key) seen.now }
-{
-    for other in seen {
-        if same_key(key, *other) {
-            return true;
+impl Model for Seen {
+    ghost use Rattle.std.specs.Prelude.{List};
+    ghost use Rattle.lx_objects.specs.Cases.{Key};
+
+    ghost Value = { List Key };
+
+    ghost view = { λ seen. seen.set.keys };
+}
+
+impl Seen {
+    fn new(alloc: Global) -> Seen
+        ensures { result ≡ [] }
+    {
+        Seen {
+            set: IndexSet::new(alloc),
         }
     }
-    false
+
+    fn has(&self, key: Option<i128>) -> bool
+        ensures { result ≡ list_any (same_key key) self.now }
+    {
+        self.set.contains(&key)
+    }
+
+    // Adds a key behind the others, where it isn't there.
+    fn add(&mut self, key: Option<i128>) -> Result<(), NoMemory>
+        ensures { OnOk result (self.new ≡ with_key key self.old) }
+    {
+        self.set.insert(key)?;
+        Ok(())
+    }
 }
 
 // A key that isn't among those seen.
@@ -77,14 +96,14 @@ fn is_seen(key: Option<i128>, seen: &[Option<i128>]) -> bool
 fn case_key(
     machine: &Machine,
     line: u32,
-    seen: &[Option<i128>],
+    seen: &Seen,
     value: Value,
 ) -> Result<Option<i128>, Refusal>
     ensures { Gives result machine.now (case_key line seen.now value machine.now) }
 {
     match key_of(machine, value) {
         Some(key) => {
-            if is_seen(key, seen) {
+            if seen.has(key) {
                 return Err(fault(line, Kind::BadKey));
             }
             Ok(key)
@@ -95,16 +114,11 @@ fn case_key(
 
 // The key of a pair, whose value holds statements alone.
 #[tactic(auto, unfolding(crate::specs::Cases::pair_fits))]
-fn pair_fits(
-    machine: &Machine,
-    line: u32,
-    seen: &[Option<i128>],
-    pair: Pair,
-) -> Result<Option<i128>, Refusal>
+fn pair_fits(machine: &Machine, line: u32, seen: &Seen, pair: Pair) -> Result<Option<i128>, Refusal>
     ensures { Gives result machine.now (pair_fits line seen.now pair machine.now) }
 {
     let key = case_key(machine, line, seen, pair.key)?;
-    only(machine, Leaves::Statements, line, &[pair.value])?;
+    only(machine, Leaves::StateStatements, line, &[pair.value])?;
     Ok(key)
 }
 
@@ -113,12 +127,10 @@ fn pair_fits(
 fn keys_fit(machine: &Machine, alloc: Global, line: u32, pairs: &[Pair]) -> Result<(), Refusal>
     ensures { Gives result machine.now (keys_fit line [] pairs.now machine.now) }
 {
-    let mut seen = List::new(alloc);
+    let mut seen = Seen::new(alloc);
     for pair in pairs {
-        let key = pair_fits(machine, line, seen.as_slice(), *pair)?;
-        if seen.push(key).is_err() {
-            return Err(Refusal::NoMemory);
-        }
+        let key = pair_fits(machine, line, &seen, *pair)?;
+        seen.add(key)?;
     }
     Ok(())
 }
@@ -191,7 +203,7 @@ fn add_case(
 ) -> Result<Cases, Refusal>
     ensures { Gives result machine.now (add_case line cases pair machine.now) }
 {
-    let body = all_of(machine, alloc, Leaves::Statements, line, &[pair.value])?;
+    let body = all_of(machine, alloc, Leaves::StateStatements, line, &[pair.value])?;
     let below = deepest_made(machine, body.as_slice());
     let key = key_of(machine, pair.key);
     Ok(with_case(deepened(cases, below), key, body)?)
@@ -231,6 +243,7 @@ pub fn case_made(
     machine.spend_nodes(line, size)?;
     let Cases { arms, rest, depth } = cases_of(machine, alloc, line, pairs)?;
     let depth = machine.deeper(line, depth)?;
+    let in_state = any_in_state(machine, values.as_slice());
     keep_made(
         machine,
         Made {
@@ -238,6 +251,7 @@ pub fn case_made(
             line,
             size,
             depth,
+            in_state,
         },
     )
 }

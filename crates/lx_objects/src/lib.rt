@@ -2,7 +2,10 @@
 #![tactic(auto)]
 
 pub mod cases;
+pub mod crossings;
+pub mod domains;
 pub mod exprs;
+pub mod fsms;
 pub mod ios;
 pub mod modules;
 pub mod signals;

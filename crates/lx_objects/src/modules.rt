@@ -3,21 +3,19 @@
 ghost use Rattle.std.specs.Prelude.{◌≡◌, ◌++◌, ◌∷◌, [], false, OnOk, slice_get};
 ghost use Rattle.lx_state.specs.Changes.{changed};
 ghost use Rattle.lx_state.specs.Step.{Gives};
-ghost use Rattle.lx_objects.specs.Modules.{above, add_bound, add_comb, add_in, add_module, add_modules, add_object, add_objects, add_some, add_some_in, add_sync, added_to, adds_by_binding, attribute, bind_attribute, change_module, is_added, is_adding, keep_module, mention, module_made, module_of, module_of_object, new_domain, new_module, one_more, place_among, rise, rise_on, room_of, set_attribute, some_attribute, sync_items, with_attribute, with_comb, with_room, with_submodule, with_sync};
+ghost use Rattle.lx_objects.specs.Modules.{above, add_bound, add_comb, add_in, add_module, add_modules, add_object, add_objects, add_some, add_some_in, add_sync, added_of, added_of_object, added_of_what, added_to, adds_by_binding, attribute, bind_attribute, change_module, is_added, is_adding, keep_module, module_count, module_made, module_of, module_of_fsm, module_of_object, module_of_what, new_module, rise, rise_on, room_of, set_attribute, some_attribute, sync_items, with_attribute, with_comb, with_room, with_submodule, with_sync};
 
+use crate::domains::{declare_bound, mention};
 use crate::statements::{all_of, only, statements_of};
 use lx_names::Table;
-use lx_state::machine::{
-    Binding, DomainState, Leaves, Machine, Module, ModuleKind, Submodule, SyncItem, What,
-};
+use lx_state::machine::{Binding, Leaves, Machine, Module, ModuleKind, Submodule, SyncItem, What};
 use lx_state::values::Value;
 use lx_state::work::{fault, limit, unknown};
-use lx_text::faults::greatest;
 use lx_text::{Kind, LimitKind, List, NoMemory, Refusal};
 use std::alloc::Global;
 
-// A module without attributes, with nothing added.
-fn new_module(alloc: Global, object: usize, class: usize, kind: ModuleKind) -> Module
+/// A module without attributes, with nothing added.
+pub(crate) fn new_module(alloc: Global, object: usize, class: usize, kind: ModuleKind) -> Module
     ensures { result ≡ new_module object class kind }
 {
     Module {
@@ -70,7 +68,8 @@ fn put_comb(
     Ok(())
 }
 
-fn push_all(into: &mut List<usize>, made: &[usize]) -> Result<(), NoMemory>
+/// Adds places behind others.
+pub(crate) fn push_all(into: &mut List<usize>, made: &[usize]) -> Result<(), NoMemory>
     ensures { OnOk result (into.new ≡ into.old ++ made.now) }
 {
     for at in made {
@@ -79,7 +78,12 @@ fn push_all(into: &mut List<usize>, made: &[usize]) -> Result<(), NoMemory>
     Ok(())
 }
 
-fn push_sync(into: &mut List<SyncItem>, domain: usize, made: &[usize]) -> Result<(), NoMemory>
+/// Adds statements of a domain.
+pub(crate) fn push_sync(
+    into: &mut List<SyncItem>,
+    domain: usize,
+    made: &[usize],
+) -> Result<(), NoMemory>
     ensures { OnOk result (into.new ≡ into.old ++ sync_items domain made.now) }
 {
     for at in made {
@@ -160,19 +164,6 @@ fn adds_by_binding(kind: ModuleKind) -> bool
     }
 }
 
-/// Tells whether one more may come where so many are there already.
-#[tactic(auto, unfolding(crate::specs::Modules::one_more))]
-pub fn one_more(machine: &Machine, line: u32, what: LimitKind, count: usize) -> Result<(), Refusal>
-    ensures { Gives result machine.now (one_more line what count machine.now) }
-{
-    let _machine = machine;
-    if (count as u64) < greatest(what) as u64 {
-        Ok(())
-    } else {
-        Err(limit(line, what))
-    }
-}
-
 #[tactic(auto, unfolding(crate::specs::Modules::keep_module))]
 fn keep_module(
     machine: &mut Machine,
@@ -190,6 +181,13 @@ fn keep_module(
     Ok(place)
 }
 
+// How many modules there are, but for what stands among them for FSMs.
+fn module_count(machine: &Machine) -> usize
+    ensures { result ≡ module_count machine.now }
+{
+    machine.modules.len().saturating_sub(machine.fsms.len())
+}
+
 /// Makes a module, without attributes, with nothing added.
 #[tactic(auto, unfolding(crate::specs::Modules::module_made))]
 pub fn module_made(
@@ -202,7 +200,8 @@ pub fn module_made(
     ensures { Gives result machine.new (module_made line class kind machine.old) }
 {
     let place = machine.modules.len();
-    one_more(machine, line, LimitKind::Modules, place)?;
+    let count = module_count(machine);
+    machine.one_more(line, LimitKind::Modules, count)?;
     let object = machine.object_made(What::Module(place), line, None)?;
     keep_module(machine, alloc, object, class, kind)
 }
@@ -234,15 +233,22 @@ pub fn attribute(
     }
 }
 
+// The module that an object is.
+fn module_of_what(what: What) -> Option<usize>
+    ensures { result ≡ module_of_what what }
+{
+    match what {
+        What::Module(at) => Some(at),
+        What::Signal(_) | What::ClockDomain(_) | What::MultiReg | What::Fsm(_) => None,
+    }
+}
+
 // The module that the object at a place is.
 fn module_of_object(machine: &Machine, at: usize) -> Option<usize>
     ensures { result ≡ module_of_object (slice_get machine.now.objects at) }
 {
     match machine.objects.get(at) {
-        Some(object) => match object.what {
-            What::Module(module) => Some(module),
-            What::Signal(_) => None,
-        },
+        Some(object) => module_of_what(object.what),
         None => None,
     }
 }
@@ -253,6 +259,46 @@ pub fn module_of(machine: &Machine, value: Value) -> Option<usize>
 {
     match value {
         Value::Object(at) => module_of_object(machine, at),
+        _ => None,
+    }
+}
+
+// The module that stands for the FSM at a place.
+fn module_of_fsm(machine: &Machine, at: usize) -> Option<usize>
+    ensures { result ≡ module_of_fsm (slice_get machine.now.fsms at) }
+{
+    match machine.fsms.get(at) {
+        Some(fsm) => Some(fsm.module),
+        None => None,
+    }
+}
+
+fn added_of_what(machine: &Machine, what: What) -> Option<usize>
+    ensures { result ≡ added_of_what machine.now what }
+{
+    match what {
+        What::Module(at) => Some(at),
+        What::Fsm(at) => module_of_fsm(machine, at),
+        What::Signal(_) | What::ClockDomain(_) | What::MultiReg => None,
+    }
+}
+
+// The module that is added where the object at a place is.
+fn added_of_object(machine: &Machine, at: usize) -> Option<usize>
+    ensures { result ≡ added_of_object machine.now (slice_get machine.now.objects at) }
+{
+    match machine.objects.get(at) {
+        Some(object) => added_of_what(machine, object.what),
+        None => None,
+    }
+}
+
+/// The module that is added where a value is: itself, or what stands for an FSM.
+pub fn added_of(machine: &Machine, value: Value) -> Option<usize>
+    ensures { result ≡ added_of machine.now value }
+{
+    match value {
+        Value::Object(at) => added_of_object(machine, at),
         _ => None,
     }
 }
@@ -370,7 +416,7 @@ fn add_object(
 ) -> Result<(), Refusal>
     ensures { Gives result machine.new (add_object line to false object machine.old) }
 {
-    let module = module_of_object(machine, object);
+    let module = added_of_object(machine, object);
     add_some(machine, alloc, line, to, false, module)
 }
 
@@ -390,7 +436,7 @@ fn add_objects(
     Ok(())
 }
 
-/// Adds modules, which may stand in lists and tuples.
+/// Adds modules and FSMs, which may stand in lists and tuples.
 #[tactic(auto, unfolding(crate::specs::Modules::add_modules))]
 pub fn add_modules(
     machine: &mut Machine,
@@ -428,7 +474,7 @@ fn add_bound(
     if !is_adding(machine, at) {
         return Ok(());
     }
-    let module = module_of(machine, value);
+    let module = added_of(machine, value);
     add_some(machine, alloc, line, at, true, module)
 }
 
@@ -444,13 +490,14 @@ pub fn bind_attribute(
 ) -> Result<(), Refusal>
     ensures { Gives result machine.new (bind_attribute line at name.now value machine.old) }
 {
+    declare_bound(machine, line, name, value)?;
     machine.name_fits(line, name)?;
     machine.bind_name(alloc, Binding::Attribute, name, value)?;
     put_attribute(alloc, &mut machine.modules, at, name, value)?;
     Ok(())
 }
 
-/// Binds an attribute; in a `LiteXModule` and in a `SoCCore` a module is added by this.
+/// Binds an attribute; in a `LiteXModule` and in a `SoCCore` a module or an FSM is added by this.
 #[tactic(auto, unfolding(crate::specs::Modules::set_attribute))]
 pub fn set_attribute(
     machine: &mut Machine,
@@ -477,50 +524,9 @@ pub fn add_comb(
 ) -> Result<(), Refusal>
     ensures { Gives result machine.new (add_comb line at value machine.old) }
 {
-    let (made, _) = statements_of(machine, alloc, line, 0, &[value])?;
+    let (made, _) = statements_of(machine, alloc, Leaves::Statements, line, 0, &[value])?;
     put_comb(alloc, &mut machine.modules, at, made.as_slice())?;
     Ok(())
-}
-
-// A domain that wasn't mentioned before.
-#[tactic(auto, unfolding(crate::specs::Modules::new_domain))]
-fn new_domain(machine: &mut Machine, line: u32, name: &[u8]) -> Result<usize, Refusal>
-    ensures { Gives result machine.new (new_domain line name.now machine.old) }
-{
-    let place = machine.domains.len();
-    one_more(machine, line, LimitKind::Domains, place)?;
-    machine.domains.set(
-        name,
-        DomainState {
-            declared: false,
-            reset: true,
-        },
-    )?;
-    Ok(place)
-}
-
-// The place that was found, or that of a new domain.
-fn place_among(
-    machine: &mut Machine,
-    line: u32,
-    name: &[u8],
-    found: Option<usize>,
-) -> Result<usize, Refusal>
-    ensures { Gives result machine.new (place_among found line name.now machine.old) }
-{
-    match found {
-        Some(place) => Ok(place),
-        None => new_domain(machine, line, name),
-    }
-}
-
-/// The place of a domain, which is mentioned by this.
-#[tactic(auto, unfolding(crate::specs::Modules::mention))]
-pub fn mention(machine: &mut Machine, line: u32, name: &[u8]) -> Result<usize, Refusal>
-    ensures { Gives result machine.new (mention line name.now machine.old) }
-{
-    let found = machine.domains.place_of(name);
-    place_among(machine, line, name, found)
 }
 
 // Adds statements to a domain, which they mention.
@@ -571,6 +577,6 @@ pub fn add_sync(
 ) -> Result<(), Refusal>
     ensures { Gives result machine.new (add_sync line at name.now value machine.old) }
 {
-    let (made, _) = statements_of(machine, alloc, line, 0, &[value])?;
+    let (made, _) = statements_of(machine, alloc, Leaves::Statements, line, 0, &[value])?;
     add_in(machine, alloc, line, at, name, made.as_slice())
 }

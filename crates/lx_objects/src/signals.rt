@@ -5,7 +5,6 @@ ghost use Rattle.lx_state.specs.Step.{Gives};
 ghost use Rattle.lx_objects.specs.Signals.{keep_owner, new_signal, part_made, put_signal, signal_made, signal_value};
 
 use crate::exprs::{put_expr, width_kind};
-use crate::modules::one_more;
 use lx_fhdl::{Expr, SigId, Signal};
 use lx_shaped::Outcome;
 use lx_state::machine::{Machine, Owner, What};
@@ -45,7 +44,7 @@ pub fn new_signal(
     ensures { Gives result machine.new (new_signal line signal object part machine.old) }
 {
     let count = machine.shaped.design().signals.len();
-    one_more(machine, line, LimitKind::Signals, count)?;
+    machine.one_more(line, LimitKind::Signals, count)?;
     let id = put_signal(machine, line, signal)?;
     keep_owner(machine, object, part)?;
     Ok(id)

@@ -2,7 +2,7 @@
 
 ghost use Rattle.std.specs.Prelude.{◌≡◌, slice_get, ◌≤◌};
 ghost use Rattle.lx_state.specs.Step.{Gives};
-ghost use Rattle.lx_objects.specs.Statements.{Gathers, all_hanging, all_of, are_all, assign_made, body_made, deepest_made, elif_made, else_made, hanging, if_made, is_nothing, items_hanging, keep_made, leaf_place, list_hanging, made_depth, node_sum, only, outline_of, single, statements_of};
+ghost use Rattle.lx_objects.specs.Statements.{Gathers, all_hanging, all_of, any_in_state, are_all, assign_made, body_made, deepest_made, elif_made, else_made, hanging, if_made, is_in_state, is_nothing, items_hanging, keep_assigning, keep_made, leaf_place, list_hanging, made_depth, next_state_made, next_value_made, node_sum, only, outline_of, single, statements_of};
 
 use lx_fhdl::{ExprId, TargetId};
 use lx_state::machine::{Form, Items, Leaves, Machine, Made};
@@ -20,6 +20,8 @@ pub struct Body {
     pub size: u32,
     /// The levels with them.
     pub depth: u8,
+    /// Whether one of them stands in a state of an FSM alone.
+    pub in_state: bool,
 }
 
 /// What a statement counts, and its line.
@@ -28,23 +30,21 @@ pub struct Outline {
     pub line: u32,
     pub size: u32,
     pub depth: u8,
+    pub in_state: bool,
 }
 
-// Whether there are things of one kind alone.
-fn are_all(what: Leaves, leaves: Leaves) -> bool
+/// Whether there are things of one kind alone.
+pub fn are_all(what: Leaves, leaves: Leaves) -> bool
     ensures { result ≡ are_all what leaves }
 {
     match (what, leaves) {
-        (Leaves::Statements, Leaves::Nothing) => true,
-        (Leaves::Statements, Leaves::Statements) => true,
-        (Leaves::Modules, Leaves::Nothing) => true,
-        (Leaves::Modules, Leaves::Modules) => true,
-        (Leaves::Statements, Leaves::Modules) => false,
-        (Leaves::Statements, Leaves::Others) => false,
-        (Leaves::Modules, Leaves::Statements) => false,
-        (Leaves::Modules, Leaves::Others) => false,
-        (Leaves::Nothing, _) => false,
-        (Leaves::Others, _) => false,
+        (Leaves::Statements, Leaves::Nothing | Leaves::Statements) => true,
+        (Leaves::StateStatements, Leaves::Nothing | Leaves::Statements | Leaves::StateStatements) =>
+            true,
+        (Leaves::Modules, Leaves::Nothing | Leaves::Modules) => true,
+        (Leaves::ClockDomains, Leaves::Nothing | Leaves::ClockDomains) => true,
+        (Leaves::Specials, Leaves::Nothing | Leaves::Specials) => true,
+        _ => false,
     }
 }
 
@@ -54,6 +54,7 @@ fn leaf_place(what: Leaves, value: Value) -> Option<usize>
 {
     match (what, value) {
         (Leaves::Statements, Value::Made(at)) => Some(at),
+        (Leaves::StateStatements, Value::Made(at)) => Some(at),
         (Leaves::Modules, Value::Object(at)) => Some(at),
         _ => None,
     }
@@ -64,7 +65,7 @@ fn is_nothing(leaves: Leaves) -> bool
 {
     match leaves {
         Leaves::Nothing => true,
-        Leaves::Statements | Leaves::Modules | Leaves::Others => false,
+        _ => false,
     }
 }
 
@@ -201,22 +202,23 @@ pub fn node_sum(machine: &Machine, line: u32, first: u32, second: u32) -> Result
     Ok(sum as u32)
 }
 
-/// The statements in some values, which count their nodes and some more, and these nodes.
+/// The statements of a kind in some values, which count their nodes and some more, and these nodes.
 #[tactic(auto, unfolding(crate::specs::Statements::statements_of))]
 pub fn statements_of(
     machine: &mut Machine,
     alloc: Global,
+    what: Leaves,
     line: u32,
     own: u32,
     values: &[Value],
 ) -> Result<(List<usize>, u32), Refusal>
-    ensures { Gives result machine.new (statements_of line own values.now machine.old) }
+    ensures { Gives result machine.new (statements_of what line own values.now machine.old) }
 {
-    only(machine, Leaves::Statements, line, values)?;
+    only(machine, what, line, values)?;
     let size = machine.sizes_of(values);
     let total = node_sum(machine, line, own, size)?;
     machine.spend_nodes(line, total)?;
-    let made = all_of(machine, alloc, Leaves::Statements, line, values)?;
+    let made = all_of(machine, alloc, what, line, values)?;
     Ok((made, total))
 }
 
@@ -240,6 +242,22 @@ pub fn deepest_made(machine: &Machine, made: &[usize]) -> u8
     depth
 }
 
+fn is_in_state(leaves: Leaves) -> bool
+    ensures { result ≡ is_in_state leaves }
+{
+    match leaves {
+        Leaves::StateStatements => true,
+        _ => false,
+    }
+}
+
+/// Whether one of the statements in some values stands in a state of an FSM alone.
+pub fn any_in_state(machine: &Machine, values: &[Value]) -> bool
+    ensures { result ≡ any_in_state machine.now values.now }
+{
+    is_in_state(machine.all_leaves(values))
+}
+
 /// The statements of an `If` or an `Else`.
 #[tactic(auto, unfolding(crate::specs::Statements::body_made))]
 pub fn body_made(
@@ -251,10 +269,16 @@ pub fn body_made(
 ) -> Result<Body, Refusal>
     ensures { Gives result machine.new (body_made line own values.now machine.old) }
 {
-    let (made, size) = statements_of(machine, alloc, line, own, values)?;
+    let (made, size) = statements_of(machine, alloc, Leaves::StateStatements, line, own, values)?;
     let below = deepest_made(machine, made.as_slice());
     let depth = machine.deeper(line, below)?;
-    Ok(Body { made, size, depth })
+    let in_state = any_in_state(machine, values);
+    Ok(Body {
+        made,
+        size,
+        depth,
+        in_state,
+    })
 }
 
 /// A statement as a value.
@@ -265,6 +289,33 @@ pub fn keep_made(machine: &mut Machine, made: Made) -> Result<Value, Refusal>
     let place = machine.made.len();
     machine.made.push(made)?;
     Ok(Value::Made(place))
+}
+
+// Keeps what assigns. So many targets stand inside its target, on so many levels.
+#[tactic(auto, unfolding(crate::specs::Statements::keep_assigning))]
+fn keep_assigning(
+    machine: &mut Machine,
+    line: u32,
+    form: Form,
+    in_state: bool,
+    inside: u32,
+    levels: u8,
+) -> Result<Value, Refusal>
+    ensures { Gives result machine.new (keep_assigning line form in_state inside levels machine.old) }
+{
+    let size = node_sum(machine, line, 1, inside)?;
+    machine.spend_nodes(line, size)?;
+    let depth = machine.deeper(line, levels)?;
+    keep_made(
+        machine,
+        Made {
+            form,
+            line,
+            size,
+            depth,
+            in_state,
+        },
+    )
 }
 
 /// Makes an assignment. So many targets stand inside its target, on so many levels.
@@ -279,19 +330,46 @@ pub fn assign_made(
 ) -> Result<Value, Refusal>
     ensures { Gives result machine.new (assign_made line target source inside levels machine.old) }
 {
-    let size = node_sum(machine, line, 1, inside)?;
-    machine.spend_nodes(line, size)?;
-    let depth = machine.deeper(line, levels)?;
+    let form = Form::Assign {
+        target,
+        value: source,
+    };
+    keep_assigning(machine, line, form, false, inside, levels)
+}
+
+/// Makes a `NextValue`, which counts as an assignment does.
+#[tactic(auto, unfolding(crate::specs::Statements::next_value_made))]
+pub fn next_value_made(
+    machine: &mut Machine,
+    line: u32,
+    target: TargetId,
+    source: ExprId,
+    inside: u32,
+    levels: u8,
+) -> Result<Value, Refusal>
+    ensures { Gives result machine.new (next_value_made line target source inside levels machine.old) }
+{
+    let form = Form::NextValue {
+        target,
+        value: source,
+    };
+    keep_assigning(machine, line, form, true, inside, levels)
+}
+
+/// Makes a `NextState` of the name at a place among the texts.
+#[tactic(auto, unfolding(crate::specs::Statements::next_state_made))]
+pub fn next_state_made(machine: &mut Machine, line: u32, name: usize) -> Result<Value, Refusal>
+    ensures { Gives result machine.new (next_state_made line name machine.old) }
+{
+    machine.spend_nodes(line, 1)?;
     keep_made(
         machine,
         Made {
-            form: Form::Assign {
-                target,
-                value: source,
-            },
+            form: Form::NextState { name },
             line,
-            size,
-            depth,
+            size: 1,
+            depth: 1,
+            in_state: true,
         },
     )
 }
@@ -307,7 +385,12 @@ pub fn if_made(
 ) -> Result<Value, Refusal>
     ensures { Gives result machine.new (if_made line condition values.now machine.old) }
 {
-    let Body { made, size, depth } = body_made(machine, alloc, line, 1, values)?;
+    let Body {
+        made,
+        size,
+        depth,
+        in_state,
+    } = body_made(machine, alloc, line, 1, values)?;
     keep_made(
         machine,
         Made {
@@ -319,6 +402,7 @@ pub fn if_made(
             line,
             size,
             depth,
+            in_state,
         },
     )
 }
@@ -332,6 +416,7 @@ pub fn outline_of(machine: &Machine, line: u32, at: usize) -> Result<Outline, Re
             line: made.line,
             size: made.size,
             depth: made.depth,
+            in_state: made.in_state,
         }),
         None => Err(fault(line, Kind::WrongKind)),
     }
@@ -350,7 +435,12 @@ pub fn elif_made(
     ensures { Gives result machine.new (elif_made line before condition values.now machine.old) }
 {
     let first = outline_of(machine, line, before)?;
-    let Body { made, size, depth } = body_made(machine, alloc, line, 0, values)?;
+    let Body {
+        made,
+        size,
+        depth,
+        in_state,
+    } = body_made(machine, alloc, line, 0, values)?;
     let size = node_sum(machine, line, first.size, size)?;
     keep_made(
         machine,
@@ -363,6 +453,7 @@ pub fn elif_made(
             line: first.line,
             size,
             depth: first.depth.max(depth),
+            in_state: first.in_state || in_state,
         },
     )
 }
@@ -379,7 +470,12 @@ pub fn else_made(
     ensures { Gives result machine.new (else_made line before values.now machine.old) }
 {
     let first = outline_of(machine, line, before)?;
-    let Body { made, size, depth } = body_made(machine, alloc, line, 0, values)?;
+    let Body {
+        made,
+        size,
+        depth,
+        in_state,
+    } = body_made(machine, alloc, line, 0, values)?;
     let size = node_sum(machine, line, first.size, size)?;
     keep_made(
         machine,
@@ -388,6 +484,7 @@ pub fn else_made(
             line: first.line,
             size,
             depth: first.depth.max(depth),
+            in_state: first.in_state || in_state,
         },
     )
 }

@@ -9,20 +9,23 @@ use Rattle.lx_state.specs.declared.machine.Made.{Made}
 use Rattle.lx_state.specs.declared.machine.Module.{Module}
 use Rattle.lx_state.specs.declared.machine.ModuleKind.{ModuleKind}
 use Rattle.lx_state.specs.declared.machine.ModuleKind.TheVariants as bases
+use Rattle.lx_state.specs.declared.machine.Object.{Object}
+use Rattle.lx_state.specs.declared.machine.What.{What}
+use Rattle.lx_state.specs.declared.machine.What.TheVariants as what
 use Rattle.lx_state.specs.declared.values.Builtin.{Builtin}
 use Rattle.lx_state.specs.declared.values.Builtin.TheVariants as builtin
 use Rattle.lx_state.specs.declared.values.Method.TheVariants as method
 use Rattle.lx_state.specs.declared.values.Value.{Value}
 use Rattle.lx_state.specs.declared.values.Value.TheVariants as value
 use Rattle.lx_state.specs.Step.{Step, give, fault}
-use Rattle.lx_objects.specs.Modules.{attribute, module_of}
+use Rattle.lx_objects.specs.Modules.{attribute}
 use Rattle.lx_ops.specs.declared.attributes.Fragment.{Fragment}
 use Rattle.lx_ops.specs.declared.attributes.Fragment.TheVariants as fragment
 
 abbrev pub unknown : ℕ → List ℕ → Step Value
 unknown line name = fault line (kind.UnknownName name)
 
--- ---- modules
+-- ---- modules and FSMs
 
 -- the fragment of a module with this name
 abbrev pub fragment_named : List ℕ → Option Fragment
@@ -56,9 +59,21 @@ module_attribute line at name m =
     else if is_unbuilt name (slice_get m.modules at) then fault line kind.NotYetBuilt m
     else attribute line at name m
 
-abbrev pub object_attribute : ℕ → List ℕ → Option ℕ → Step Value
+-- the methods of an FSM
+abbrev pub fsm_attribute : ℕ → List ℕ → ℕ → Step Value
+fsm_attribute line name at m =
+    if bytes_eq name (codes "act") then give (value.Method (method.Act at)) m
+    else if bytes_eq name (codes "ongoing") then give (value.Method (method.Ongoing at)) m
+    else unknown line name m
+
+abbrev pub what_attribute : ℕ → List ℕ → What → Step Value
+what_attribute line name (what.Module at) m = module_attribute line at name m
+what_attribute line name (what.Fsm at) m = fsm_attribute line name at m
+what_attribute line name _ m = unknown line name m
+
+abbrev pub object_attribute : ℕ → List ℕ → Option Object → Step Value
 object_attribute line name None m = unknown line name m
-object_attribute line name (Some at) m = module_attribute line at name m
+object_attribute line name (Some o) m = what_attribute line name o.what m
 
 -- ---- other values
 
@@ -94,7 +109,7 @@ builtin_attribute line name _ m = unknown line name m
 unfoldable pub attribute_of : ℕ → Value → List ℕ → Step Value
 attribute_of line (value.Expr id) name m = single line name (codes "eq") (value.Method (method.Eq id)) m
 attribute_of line (value.Made at) name m = made_attribute line name at (slice_get m.made at) m
-attribute_of line (value.Object at) name m = object_attribute line name (module_of m (value.Object at)) m
+attribute_of line (value.Object at) name m = object_attribute line name (slice_get m.objects at) m
 attribute_of line (value.Super at) name m = single line name (codes "__init__") (value.Method (method.Init at)) m
 attribute_of line (value.Builtin b) name m = builtin_attribute line name b m
 attribute_of line _ name m = unknown line name m

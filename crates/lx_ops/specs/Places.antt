@@ -3,13 +3,16 @@ use Rattle.std.specs.Prelude.{ℕ, Bool, true, false, ◌&&◌, if◌then◌else
 use Rattle.std.specs.Str.{bytes_eq}
 use Rattle.lx_text.specs.declared.faults.Kind.TheVariants as kind
 use Rattle.lx_state.specs.declared.machine.Machine.{Machine}
+use Rattle.lx_state.specs.declared.machine.Leaves.{Leaves}
+use Rattle.lx_state.specs.declared.machine.Leaves.TheVariants as leaves
 use Rattle.lx_state.specs.declared.values.Value.{Value}
-use Rattle.lx_state.specs.Lists.{all_leaves}
+use Rattle.lx_state.specs.declared.values.Value.TheVariants as value
+use Rattle.lx_state.specs.Lists.{leaf_of}
 use Rattle.lx_state.specs.Step.{Step, give, fault, ◌>>=◌}
 use Rattle.lx_state.specs.declared.machine.Module.{Module}
 use Rattle.lx_objects.specs.Ios.{ios_of}
-use Rattle.lx_objects.specs.Modules.{add_comb, add_module, add_modules, add_sync, bind_attribute, module_of, set_attribute}
-use Rattle.lx_objects.specs.Statements.{is_nothing}
+use Rattle.lx_objects.specs.Modules.{add_comb, add_module, add_modules, add_sync, added_of, bind_attribute, module_of, set_attribute}
+use Rattle.lx_objects.specs.Statements.{are_all, only}
 use Rattle.lx_paths.specs.Paths.{is_top}
 use Rattle.lx_ops.specs.Attributes.{attribute_of, fragment_named}
 use Rattle.lx_ops.specs.declared.attributes.Fragment.{Fragment}
@@ -82,9 +85,20 @@ abbrev pub bind_submodule : ℕ → ℕ → List ℕ → Value → Option ℕ �
 bind_submodule line to name v None m = fault line kind.WrongKind m
 bind_submodule line to name v (Some at) m = bind_added line to name v at m
 
--- of what is built only modules can be bound so
+-- whether a value is an object of a kind itself
+abbrev pub is_leaf : Leaves → Machine → Value → Bool
+is_leaf what m (value.Object at) = are_all what (leaf_of (slice_get m.objects at))
+is_leaf what m _ = false
+
+abbrev pub bind_special : ℕ → ℕ → List ℕ → Value → Bool → Step (Unit {0})
+bind_special line to name v true m = bind_own line to name v m
+bind_special line to name v false m = fault line kind.WrongKind m
+
+-- of what is built modules, FSMs, `MultiReg`s and `ClockDomain`s can be bound so
 abbrev pub bind_under : ℕ → ℕ → List ℕ → Value → Fragment → Step (Unit {0})
-bind_under line to name v fragment.Submodules m = bind_submodule line to name v (module_of m v) m
+bind_under line to name v fragment.Submodules m = bind_submodule line to name v (added_of m v) m
+bind_under line to name v fragment.Specials m = bind_special line to name v (is_leaf leaves.Specials m v) m
+bind_under line to name v fragment.ClockDomains m = bind_special line to name v (is_leaf leaves.ClockDomains m v) m
 bind_under line to name v _ m = fault line kind.WrongKind m
 
 abbrev pub bind_held : ℕ → Holder → List ℕ → Value → Step (Unit {0})
@@ -106,16 +120,13 @@ abbrev pub adds : Machine → Holder → List ℕ → Bool
 adds m (holder.Plain o) name = is_some (part_of m o name)
 adds m (holder.Part p) name = is_sync p.fragment
 
--- of what is built nothing can be added so
-unfoldable pub add_nothing : ℕ → Value → Step (Unit {0})
-add_nothing line v m = if is_nothing (all_leaves m (v ∷ [])) then give tt m else fault line kind.WrongKind m
-
+-- what takes part once it is made, and clock domains, are only looked at
 abbrev pub add_fragment : ℕ → ℕ → Value → Fragment → Step (Unit {0})
 add_fragment line at v fragment.Comb m = add_comb line at v m
 add_fragment line at v fragment.Sync m = add_sync line at (codes "sys") v m
 add_fragment line at v fragment.Submodules m = add_modules line at v m
-add_fragment line at v fragment.Specials m = add_nothing line v m
-add_fragment line at v fragment.ClockDomains m = add_nothing line v m
+add_fragment line at v fragment.Specials m = only leaves.Specials line (v ∷ []) m
+add_fragment line at v fragment.ClockDomains m = only leaves.ClockDomains line (v ∷ []) m
 
 abbrev pub add_part : ℕ → Value → Option Part → Step (Unit {0})
 add_part line v None m = fault line kind.WrongKind m

@@ -9,7 +9,7 @@ use Rattle.lx_fhdl.specs.declared.stmts.Target.{Target}
 use Rattle.lx_fhdl.specs.declared.stmts.Target.TheVariants as target
 use Rattle.lx_state.specs.declared.values.Value.{Value}
 use Rattle.lx_state.specs.Lists.{deeper}
-use Rattle.lx_objects.specs.Statements.{assign_made, node_sum}
+use Rattle.lx_objects.specs.Statements.{assign_made, next_value_made, node_sum}
 use Rattle.lx_state.specs.Step.{Step, give, fault, or_fault, ◌>>=◌}
 use Rattle.lx_objects.specs.Exprs.{put_target}
 use Rattle.lx_ops.specs.Exprs.{expr_of, expression}
@@ -96,3 +96,10 @@ assign line t v = do
   aim ← target_of line t
   e ← expr_of line v
   assign_made line aim.target e aim.inside aim.depth
+
+-- `NextValue(t, v)`, which counts as an assignment does
+unfoldable pub assign_next : ℕ → Value → Value → Step Value
+assign_next line t v = do
+  aim ← target_of line t
+  e ← expr_of line v
+  next_value_made line aim.target e aim.inside aim.depth

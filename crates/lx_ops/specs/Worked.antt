@@ -1,5 +1,5 @@
 -- Operators on a small machine, worked by hand.
-use Rattle.std.specs.Prelude.{◌≡◌, ℕ, pos, negsuc, true, List, [], ◌∷◌, ◌++◌, codes, Option, Some, None, Result, Ok, Err, slice_get}
+use Rattle.std.specs.Prelude.{◌≡◌, ℕ, pos, negsuc, true, false, List, [], ◌∷◌, ◌++◌, map, codes, Option, Some, None, Result, Ok, Err, slice_get}
 use Rattle.lx_text.specs.declared.faults.Fault.{Fault}
 use Rattle.lx_text.specs.declared.faults.Kind.{Kind}
 use Rattle.lx_text.specs.declared.faults.Kind.TheVariants as kind
@@ -15,24 +15,29 @@ use Rattle.lx_state.specs.declared.machine.Binding.TheVariants as binding
 use Rattle.lx_state.specs.declared.machine.Items.{Items}
 use Rattle.lx_state.specs.declared.machine.Leaves.TheVariants as leaves
 use Rattle.lx_state.specs.declared.machine.Machine.{Machine}
+use Rattle.lx_state.specs.declared.machine.DomainState.{DomainState}
 use Rattle.lx_state.specs.declared.machine.Form.{Form}
 use Rattle.lx_state.specs.declared.machine.Form.TheVariants as form
 use Rattle.lx_state.specs.declared.machine.Made.{Made}
 use Rattle.lx_state.specs.declared.machine.Module.{Module}
 use Rattle.lx_state.specs.declared.machine.ModuleKind.{ModuleKind}
 use Rattle.lx_state.specs.declared.machine.ModuleKind.TheVariants as bases
+use Rattle.lx_state.specs.declared.machine.Object.{Object}
+use Rattle.lx_state.specs.declared.machine.Submodule.{Submodule}
+use Rattle.lx_state.specs.declared.machine.What.{What}
 use Rattle.lx_state.specs.declared.machine.What.TheVariants as what
 use Rattle.lx_state.specs.declared.values.Method.TheVariants as method
 use Rattle.lx_state.specs.declared.values.Value.{Value}
 use Rattle.lx_state.specs.declared.values.Value.TheVariants as value
 use Rattle.lx_state.specs.Step.{Outcome}
 use Rattle.lx_state.specs.Worked.{seen, spent, start}
+use Rattle.lx_objects.specs.Fsms.{new_fsm, stand_in}
 use Rattle.lx_ops.specs.Attributes.{attribute_of}
 use Rattle.lx_ops.specs.Binary.{binary}
 use Rattle.lx_ops.specs.Compare.{compare, negated, prefixed}
 use Rattle.lx_ops.specs.Items.{item_of, slice_of}
 use Rattle.lx_ops.specs.Places.{add_at, bind_at, holder_of}
-use Rattle.lx_ops.specs.Targets.{assign, target_of}
+use Rattle.lx_ops.specs.Targets.{assign, assign_next, target_of}
 use Rattle.lx_ops.specs.declared.attributes.Fragment.{Fragment}
 use Rattle.lx_ops.specs.declared.attributes.Fragment.TheVariants as fragment
 use Rattle.lx_ops.specs.declared.places.Holder.{Holder}
@@ -87,16 +92,19 @@ values_at k m = elim (slice_get m.lists k) as (λ _. List (List Value)) [ None �
 abbrev pub int : ℕ → Value
 int n = value.Int (pos n)
 
+abbrev pub an_object : What → Object
+an_object what_ = record { what = what_; line = 1; maker = None; given = None; by_attribute = None; by_local = None }
+
 abbrev pub a_module : ModuleKind → Module
 a_module kind_ = record { object = 0; class = 0; kind = kind_; attributes = (codes "x", value.Int (pos 5)) ∷ []; comb = []; sync = []; submodules = []; added = None; room = 63 }
 
 abbrev pub a_statement : Form → Made
-a_statement f = record { form = f; line = 1; size = 1; depth = 1 }
+a_statement f = record { form = f; line = 1; size = 1; depth = 1; in_state = false }
 
 -- the system's top with an attribute x, and an `If` and its `Else`
 abbrev pub top : Machine
 top = record some {
-  objects = record { what = what.Module 0; line = 1; maker = None; given = None; by_attribute = None; by_local = None } ∷ [];
+  objects = an_object (what.Module 0) ∷ [];
   modules = a_module bases.Soc ∷ [];
   made = a_statement (form.If None (the_expr 0) []) ∷ a_statement (form.Else 0 []) ∷ [];
 }
@@ -108,11 +116,38 @@ topped = record top {
   lists = items (a ∷ []) ∷ items (a ∷ int 7 ∷ []) ∷ [];
 }
 
+-- with a `MultiReg`, a `ClockDomain` and a list of it
+abbrev pub equipped : Machine
+equipped = record top {
+  objects = top.objects ++ an_object what.MultiReg ∷ an_object (what.ClockDomain (record { reset = false; bound = false })) ∷ [];
+  lists = record (items (value.Object 2 ∷ [])) { leaves = leaves.ClockDomains } ∷ [];
+}
+
+abbrev pub domains : Machine → List (List ℕ × DomainState)
+domains m = m.domains
+
 abbrev pub own_bound : List ℕ → Value → Machine → Result (Unit {0}) Fault
 own_bound name v m = value_of (bind_at 9 (holder.Plain (value.Object 0)) name v m)
 
 abbrev pub under : Fragment → Holder
 under f = holder.Part (record { module_ = 0; fragment = f })
+
+abbrev pub forms : Machine → List Form
+forms m = map (λ (s : Made). s.form) m.made
+
+-- with an FSM without states
+abbrev pub staged : Machine
+staged = record top {
+  objects = top.objects ++ an_object (what.Fsm 0) ∷ [];
+  modules = top.modules ++ stand_in 1 ∷ [];
+  fsms = new_fsm 1 1 (the_signal 0) None ∷ [];
+}
+
+abbrev pub an_fsm : Value
+an_fsm = value.Object 1
+
+abbrev pub submodules : Machine → List (List Submodule)
+submodules m = map (λ (x : Module). x.submodules) m.modules
 
 -- Of values of Python.
 pub record AreComputed : Type 0 where
@@ -169,6 +204,10 @@ pub record AreAssigned : Type 0 where
   pub assigned_nodes : seen nodes (assign 9 cat (int 5) some) ≡ Ok 3
   pub to_an_integer : value_of (assign 9 (int 5) a some) ≡ at_nine kind.WrongKind
   pub a_text : value_of (assign 9 a (value.Text 0) some) ≡ at_nine kind.WrongKind
+  -- a `NextValue` has the targets of an assignment
+  pub next_value_nodes : seen nodes (assign_next 9 cat (int 5) some) ≡ Ok 3
+  pub next_value_form : seen forms (assign_next 9 a w some) ≡ Ok (form.NextValue (the_target 0) (the_expr 1) ∷ [])
+  pub next_value_of_an_integer : value_of (assign_next 9 (int 5) a some) ≡ at_nine kind.WrongKind
 
 -- Of attributes and places.
 pub record HaveAttributes : Type 0 where
@@ -183,6 +222,32 @@ pub record HaveAttributes : Type 0 where
   pub domain_is_bound : value_of (bind_at 9 (under fragment.Sync) (codes "pix") a top) ≡ at_nine kind.WrongKind
   pub fragment_is_bound : value_of (bind_at 9 (holder.Plain (value.Object 0)) (codes "comb") a top) ≡ at_nine kind.WrongKind
   pub signal_is_added : value_of (add_at 9 (holder.Plain (value.Object 0)) (codes "submodules") a top) ≡ at_nine kind.WrongKind
+
+-- Of what takes part once it is made, and of clock domains.
+pub record AreLookedAt : Type 0 where
+  pub special_bound : value_of (bind_at 9 (under fragment.Specials) (codes "x") (value.Object 1) equipped) ≡ Ok tt
+  pub special_added : value_of (add_at 9 (holder.Plain (value.Object 0)) (codes "specials") (value.Object 1) equipped) ≡ Ok tt
+  pub domain_as_special : value_of (bind_at 9 (under fragment.Specials) (codes "x") (value.Object 2) equipped) ≡ at_nine kind.WrongKind
+  pub module_as_special : value_of (add_at 9 (holder.Plain (value.Object 0)) (codes "specials") (value.Object 0) equipped) ≡ at_nine kind.WrongKind
+  -- binding declares a domain, and adding declares none
+  pub domain_bound : seen domains (bind_at 9 (under fragment.ClockDomains) (codes "cd_pix") (value.Object 2) equipped) ≡ Ok ((codes "pix", record { declared = true; reset = false }) ∷ [])
+  pub domain_bound_plainly : seen domains (bind_at 9 (holder.Plain (value.Object 0)) (codes "cd_pix") (value.Object 2) equipped) ≡ Ok ((codes "pix", record { declared = true; reset = false }) ∷ [])
+  pub domain_added : seen domains (add_at 9 (holder.Plain (value.Object 0)) (codes "clock_domains") (value.List 0) equipped) ≡ Ok []
+  pub signal_as_domain : value_of (bind_at 9 (under fragment.ClockDomains) (codes "cd_x") a equipped) ≡ at_nine kind.WrongKind
+  pub list_as_domain : value_of (bind_at 9 (under fragment.ClockDomains) (codes "cd_x") (value.List 0) equipped) ≡ at_nine kind.WrongKind
+  pub special_as_domain : value_of (add_at 9 (holder.Plain (value.Object 0)) (codes "clock_domains") (value.Object 1) equipped) ≡ at_nine kind.WrongKind
+
+-- Of FSMs.
+pub record HaveStates : Type 0 where
+  pub act : value_of (attribute_of 9 an_fsm (codes "act") staged) ≡ Ok (value.Method (method.Act 0))
+  pub ongoing : value_of (attribute_of 9 an_fsm (codes "ongoing") staged) ≡ Ok (value.Method (method.Ongoing 0))
+  pub no_state : value_of (attribute_of 9 an_fsm (codes "state") staged) ≡ at_nine (kind.UnknownName (codes "state"))
+  -- it has no fragments and no attributes of its own
+  pub no_fragment : value_of (holder_of 9 an_fsm (codes "comb") staged) ≡ at_nine (kind.UnknownName (codes "comb"))
+  pub not_bound : value_of (bind_at 9 (holder.Plain an_fsm) (codes "y") (int 5) staged) ≡ at_nine kind.WrongKind
+  pub added_by_name : seen submodules (bind_at 9 (under fragment.Submodules) (codes "f") an_fsm staged) ≡ Ok ((record { place = 1; named = true } ∷ []) ∷ [] ∷ [])
+  pub added_without : seen submodules (add_at 9 (holder.Plain (value.Object 0)) (codes "submodules") an_fsm staged) ≡ Ok ((record { place = 1; named = false } ∷ []) ∷ [] ∷ [])
+  pub as_special : value_of (bind_at 9 (under fragment.Specials) (codes "f") an_fsm staged) ≡ at_nine kind.WrongKind
 
 -- Of the ports of the top.
 pub record HavePorts : Type 0 where

@@ -2,11 +2,11 @@
 
 ghost use Rattle.std.specs.Prelude.{◌≡◌, codes, slice_get};
 ghost use Rattle.lx_state.specs.Step.{Gives};
-ghost use Rattle.lx_ops.specs.Attributes.{attribute_of, branch, builtin_attribute, fragment_named, if_branch, is_system, is_system_name, is_unbuilt, last_branch, made_attribute, module_attribute, object_attribute, single};
+ghost use Rattle.lx_ops.specs.Attributes.{attribute_of, branch, builtin_attribute, fragment_named, fsm_attribute, if_branch, is_system, is_system_name, is_unbuilt, last_branch, made_attribute, module_attribute, object_attribute, single, what_attribute};
 
-use lx_objects::modules::{attribute, module_of};
+use lx_objects::modules::attribute;
 use lx_state::work::{fault, unknown};
-use lx_state::{Builtin, Form, Machine, Method, ModuleKind, Value};
+use lx_state::{Builtin, Form, Machine, Method, ModuleKind, Value, What};
 use lx_text::{Kind, Refusal};
 use std::alloc::Global;
 
@@ -93,17 +93,53 @@ fn module_attribute(
     attribute(machine, alloc, line, at, name)
 }
 
+// A method of an FSM.
+fn fsm_attribute(
+    machine: &Machine,
+    alloc: Global,
+    line: u32,
+    name: &[u8],
+    at: usize,
+) -> Result<Value, Refusal>
+    ensures { Gives result machine.now (fsm_attribute line name.now at machine.now) }
+{
+    let _machine = machine;
+    if name == b"act".as_slice() {
+        Ok(Value::Method(Method::Act(at)))
+    } else if name == b"ongoing".as_slice() {
+        Ok(Value::Method(Method::Ongoing(at)))
+    } else {
+        Err(unknown(alloc, line, name))
+    }
+}
+
+fn what_attribute(
+    machine: &Machine,
+    alloc: Global,
+    line: u32,
+    name: &[u8],
+    what: What,
+) -> Result<Value, Refusal>
+    ensures { Gives result machine.now (what_attribute line name.now what machine.now) }
+{
+    match what {
+        What::Module(at) => module_attribute(machine, alloc, line, at, name),
+        What::Fsm(at) => fsm_attribute(machine, alloc, line, name, at),
+        What::Signal(_) | What::ClockDomain(_) | What::MultiReg => Err(unknown(alloc, line, name)),
+    }
+}
+
 fn object_attribute(
     machine: &Machine,
     alloc: Global,
     line: u32,
-    at: Option<usize>,
     name: &[u8],
+    at: usize,
 ) -> Result<Value, Refusal>
-    ensures { Gives result machine.now (object_attribute line name.now at machine.now) }
+    ensures { Gives result machine.now (object_attribute line name.now (slice_get machine.now.objects at) machine.now) }
 {
-    match at {
-        Some(at) => module_attribute(machine, alloc, line, at, name),
+    match machine.objects.get(at) {
+        Some(object) => what_attribute(machine, alloc, line, name, object.what),
         None => Err(unknown(alloc, line, name)),
     }
 }
@@ -172,7 +208,8 @@ fn branch(
     match form {
         Form::If { .. } => if_branch(machine, alloc, line, name, at),
         Form::Else { .. } => last_branch(machine, alloc, line, name),
-        Form::Assign { .. } | Form::Case { .. } => Err(unknown(alloc, line, name)),
+        Form::Assign { .. } | Form::Case { .. } | Form::NextState { .. } | Form::NextValue { .. } =>
+            Err(unknown(alloc, line, name)),
     }
 }
 
@@ -214,8 +251,8 @@ fn builtin_attribute(
     }
 }
 
-/// An attribute of a value: `eq` of an expression of FHDL, a further branch of an `If`, what was bound in a module, or
-/// the `__init__` of `super()`.
+/// An attribute of a value: `eq` of an expression of FHDL, a further branch of an `If`, what was bound in a module, a
+/// method of an FSM, or the `__init__` of `super()`.
 #[tactic(auto, unfolding(crate::specs::Attributes::attribute_of))]
 pub fn attribute_of(
     machine: &Machine,
@@ -232,10 +269,7 @@ pub fn attribute_of(
             single(machine, alloc, line, name, b"eq", eq)
         }
         Value::Made(at) => made_attribute(machine, alloc, line, name, at),
-        Value::Object(at) => {
-            let module = module_of(machine, Value::Object(at));
-            object_attribute(machine, alloc, line, module, name)
-        }
+        Value::Object(at) => object_attribute(machine, alloc, line, name, at),
         Value::Super(at) => {
             let init = Value::Method(Method::Init(at));
             single(machine, alloc, line, name, b"__init__", init)

@@ -44,9 +44,9 @@ fn clamped(bits: u8, number: i128) -> u8
     }
 }
 
-// The bits of an expression.
+/// The bits of an expression.
 #[tactic(auto, unfolding(crate::specs::Items::bits_of))]
-fn bits_of(machine: &Machine, line: u32, id: ExprId) -> Result<u8, Refusal>
+pub fn bits_of(machine: &Machine, line: u32, id: ExprId) -> Result<u8, Refusal>
     ensures { Gives result machine.now (bits_of line id machine.now) }
 {
     match machine.shaped.shape(id) {

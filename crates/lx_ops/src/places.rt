@@ -2,13 +2,14 @@
 
 ghost use Rattle.std.specs.Prelude.{◌≡◌, slice_get};
 ghost use Rattle.lx_state.specs.Step.{Gives};
-ghost use Rattle.lx_ops.specs.Places.{add_at, add_fragment, add_nothing, add_part, add_under, adds, attribute_fits, bind_added, bind_at, bind_held, bind_module, bind_own, bind_submodule, bind_under, held, holder_of, is_ports, is_sync, named_holder, part_named, part_of, read_at, setattr_holder, takes_names};
+ghost use Rattle.lx_ops.specs.Places.{add_at, add_fragment, add_part, add_under, adds, attribute_fits, bind_added, bind_at, bind_held, bind_module, bind_own, bind_special, bind_submodule, bind_under, held, holder_of, is_leaf, is_ports, is_sync, named_holder, part_named, part_of, read_at, setattr_holder, takes_names};
 
 use crate::attributes::{Fragment, attribute_of, fragment_named};
 use lx_objects::ios::ios_of;
 use lx_objects::modules::{
-    add_comb, add_module, add_modules, add_sync, bind_attribute, module_of, set_attribute,
+    add_comb, add_module, add_modules, add_sync, added_of, bind_attribute, module_of, set_attribute,
 };
+use lx_objects::statements::{are_all, only};
 use lx_paths::paths::is_top;
 use lx_state::work::fault;
 use lx_state::{Leaves, Machine, Value};
@@ -200,6 +201,34 @@ fn bind_submodule(
     }
 }
 
+// Whether a value is an object of a kind itself.
+fn is_leaf(machine: &Machine, what: Leaves, value: Value) -> bool
+    ensures { result ≡ is_leaf what machine.now value }
+{
+    match value {
+        Value::Object(at) => are_all(what, machine.leaf_of(at)),
+        _ => false,
+    }
+}
+
+fn bind_special(
+    machine: &mut Machine,
+    alloc: Global,
+    line: u32,
+    to: usize,
+    name: &[u8],
+    value: Value,
+    fits: bool,
+) -> Result<(), Refusal>
+    ensures { Gives result machine.new (bind_special line to name.now value fits machine.old) }
+{
+    if fits {
+        bind_own(machine, alloc, line, to, name, value)
+    } else {
+        Err(fault(line, Kind::WrongKind))
+    }
+}
+
 fn bind_under(
     machine: &mut Machine,
     alloc: Global,
@@ -213,13 +242,19 @@ fn bind_under(
 {
     match fragment {
         Fragment::Submodules => {
-            let at = module_of(machine, value);
+            let at = added_of(machine, value);
             bind_submodule(machine, alloc, line, to, name, value, at)
+        }
+        Fragment::Specials => {
+            let fits = is_leaf(machine, Leaves::Specials, value);
+            bind_special(machine, alloc, line, to, name, value, fits)
+        }
+        Fragment::ClockDomains => {
+            let fits = is_leaf(machine, Leaves::ClockDomains, value);
+            bind_special(machine, alloc, line, to, name, value, fits)
         }
         Fragment::Comb => Err(fault(line, Kind::WrongKind)),
         Fragment::Sync => Err(fault(line, Kind::WrongKind)),
-        Fragment::Specials => Err(fault(line, Kind::WrongKind)),
-        Fragment::ClockDomains => Err(fault(line, Kind::WrongKind)),
     }
 }
 
@@ -290,19 +325,6 @@ pub fn adds(machine: &Machine, holder: Holder, name: &[u8]) -> bool
     }
 }
 
-// Of what is built nothing can be added, but for lists in which nothing hangs.
-#[tactic(auto, unfolding(crate::specs::Places::add_nothing))]
-fn add_nothing(machine: &Machine, line: u32, value: Value) -> Result<(), Refusal>
-    ensures { Gives result machine.now (add_nothing line value machine.now) }
-{
-    match machine.all_leaves(&[value]) {
-        Leaves::Nothing => Ok(()),
-        Leaves::Statements => Err(fault(line, Kind::WrongKind)),
-        Leaves::Modules => Err(fault(line, Kind::WrongKind)),
-        Leaves::Others => Err(fault(line, Kind::WrongKind)),
-    }
-}
-
 fn add_fragment(
     machine: &mut Machine,
     alloc: Global,
@@ -317,8 +339,8 @@ fn add_fragment(
         Fragment::Comb => add_comb(machine, alloc, line, at, value),
         Fragment::Sync => add_sync(machine, alloc, line, at, b"sys", value),
         Fragment::Submodules => add_modules(machine, alloc, line, at, value),
-        Fragment::Specials => add_nothing(machine, line, value),
-        Fragment::ClockDomains => add_nothing(machine, line, value),
+        Fragment::Specials => only(machine, Leaves::Specials, line, &[value]),
+        Fragment::ClockDomains => only(machine, Leaves::ClockDomains, line, &[value]),
     }
 }
 

@@ -2,12 +2,12 @@
 
 ghost use Rattle.std.specs.Prelude.{◌≡◌, IfOk, slice_get, option_copied};
 ghost use Rattle.lx_state.specs.Step.{Gives};
-ghost use Rattle.lx_ops.specs.Targets.{aim_added, aim_after, aim_made, aim_reached, aim_there, aim_within, aims_after, aims_of, assign, part_reach, reach_of, target_of};
+ghost use Rattle.lx_ops.specs.Targets.{aim_added, aim_after, aim_made, aim_reached, aim_there, aim_within, aims_after, aims_of, assign, assign_next, part_reach, reach_of, target_of};
 
 use crate::exprs::{expr_of, expression};
 use lx_fhdl::{Expr, ExprId, Target, TargetId};
 use lx_objects::exprs::put_target;
-use lx_objects::statements::{assign_made, node_sum};
+use lx_objects::statements::{assign_made, next_value_made, node_sum};
 use lx_state::lists::copied;
 use lx_state::work::{fault, limit};
 use lx_state::{Machine, Value};
@@ -281,4 +281,20 @@ pub fn assign(
     let aim = target_of(machine, alloc, line, target)?;
     let source = expr_of(machine, line, value)?;
     assign_made(machine, line, aim.target, source, aim.inside, aim.depth)
+}
+
+/// `NextValue`, which counts as an assignment does.
+#[tactic(auto, unfolding(crate::specs::Targets::assign_next))]
+pub fn assign_next(
+    machine: &mut Machine,
+    alloc: Global,
+    line: u32,
+    target: Value,
+    value: Value,
+) -> Result<Value, Refusal>
+    ensures { Gives result machine.new (assign_next line target value machine.old) }
+{
+    let aim = target_of(machine, alloc, line, target)?;
+    let source = expr_of(machine, line, value)?;
+    next_value_made(machine, line, aim.target, source, aim.inside, aim.depth)
 }

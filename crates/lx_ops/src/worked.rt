@@ -1,6 +1,6 @@
 //! Operators worked by hand.
 
-ghost use Rattle.lx_ops.specs.Worked.{AreAssigned, AreCompared, AreComputed, AreExpressed, HaveAttributes, HavePorts};
+ghost use Rattle.lx_ops.specs.Worked.{AreAssigned, AreCompared, AreComputed, AreExpressed, AreLookedAt, HaveAttributes, HavePorts, HaveStates};
 
 /// What operators do, worked by hand.
 pub fn operators_are_worked()
@@ -9,5 +9,7 @@ pub fn operators_are_worked()
     ensures expressed { AreExpressed }
     ensures assigned { AreAssigned }
     ensures attributes { HaveAttributes }
+    ensures looked_at { AreLookedAt }
     ensures ports { HavePorts }
+    ensures states { HaveStates }
 {}

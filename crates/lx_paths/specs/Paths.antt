@@ -3,13 +3,16 @@ use Rattle.std.specs.Prelude.{ℕ, zero, suc, ◌+◌, Bool, List, [], ◌∷◌
 use Rattle.std.specs.Char.{to_ascii_lowercase}
 use Rattle.std.specs.List.{range_with_len}
 use Rattle.lx_state.specs.declared.machine.Class.{Class}
+use Rattle.lx_state.specs.declared.machine.Fsm.{Fsm}
 use Rattle.lx_state.specs.declared.machine.Machine.{Machine}
 use Rattle.lx_state.specs.declared.machine.Module.{Module}
 use Rattle.lx_state.specs.declared.machine.Object.{Object}
 use Rattle.lx_state.specs.declared.machine.Owner.{Owner}
 use Rattle.lx_state.specs.declared.machine.What.{What}
 use Rattle.lx_state.specs.declared.machine.What.TheVariants as what
+use Rattle.lx_names.specs.Tables.{look_up}
 use Rattle.lx_state.specs.Frames.{or_else}
+use Rattle.lx_state.specs.Naming.{item_name}
 
 -- ---- names
 
@@ -26,6 +29,9 @@ module_name m (Some x) = class_name (slice_get m.classes x.class)
 abbrev pub kind_name : Machine → What → List ℕ
 kind_name m (what.Signal x) = codes "sig"
 kind_name m (what.Module at) = module_name m (slice_get m.modules at)
+kind_name m (what.ClockDomain d) = codes "clockdomain"
+kind_name m what.MultiReg = codes "multireg"
+kind_name m (what.Fsm k) = codes "fsm"
 
 -- `name=`, else that of the first binding to an attribute, else that of the first one to a local name
 abbrev pub chosen_name : Object → Option (List ℕ)
@@ -72,10 +78,32 @@ some_path m part (Some o) = object_path m part o
 abbrev pub path_of : Machine → ℕ → Option (List ℕ) → List (List ℕ)
 path_of m object part = some_path m part (slice_get m.objects object)
 
+-- ---- parts of FSMs
+
+abbrev pub what_fsm : Machine → What → Option Fsm
+what_fsm m (what.Fsm k) = slice_get m.fsms k
+what_fsm m _ = None
+
+-- the FSM that an object is
+abbrev pub object_fsm : Machine → Option Object → Option Fsm
+object_fsm m None = None
+object_fsm m (Some o) = what_fsm m o.what
+
+-- its own signal is `state`; what is `ongoing` of a state goes by the state's number
+abbrev pub fsm_part : Fsm → Option (List ℕ) → List ℕ
+fsm_part f None = codes "state"
+fsm_part f (Some name) = item_name (codes "ongoing") (unwrap_or (look_up f.names name) 0)
+
+abbrev pub part_name : Option Fsm → Option (List ℕ) → Option (List ℕ)
+part_name None part = part
+part_name (Some f) part = Some (fsm_part f part)
+
+-- ---- signals
+
 -- generated hardware is nobody's
 abbrev pub owner_path : Machine → Option Owner → List (List ℕ)
 owner_path m None = []
-owner_path m (Some x) = path_of m x.object x.part
+owner_path m (Some x) = path_of m x.object (part_name (object_fsm m (slice_get m.objects x.object)) x.part)
 
 -- of each signal, in order
 abbrev pub signal_paths : Machine → List (List (List ℕ))

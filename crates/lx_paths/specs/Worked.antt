@@ -4,6 +4,7 @@ use Rattle.lx_fhdl.specs.Drafts.{started}
 use Rattle.lx_fhdl.specs.Instance.{signal_of, the_signal}
 use Rattle.lx_state.specs.declared.values.Value.TheVariants as value
 use Rattle.lx_state.specs.declared.machine.Binding.TheVariants as binding
+use Rattle.lx_state.specs.declared.machine.Fsm.{Fsm}
 use Rattle.lx_state.specs.declared.machine.Machine.{Machine}
 use Rattle.lx_state.specs.declared.machine.Module.{Module}
 use Rattle.lx_state.specs.declared.machine.ModuleKind.TheVariants as bases
@@ -62,6 +63,20 @@ rows = record start {
 abbrev pub inner : Machine → List (List ℕ)
 inner m = path_of m 3 None
 
+-- an FSM of the top with two states, bound to `ctl`; a second one with none, unbound; and a signal
+abbrev pub an_fsm : ℕ → ℕ → List (List ℕ × ℕ) → Fsm
+an_fsm object state names = record { object = object; «module» = 0; state = the_signal state; start = None; names = names; bodies = []; asked = [] }
+
+abbrev pub fsms : Machine
+fsms = record start {
+  classes = a_class (codes "Top") ∷ [];
+  objects = a_module 0 None None None ∷ record (a_signal (Some 0) (Some (codes "ctl")) None) { what = what.Fsm 0 } ∷ record (a_signal (Some 0) None None) { what = what.Fsm 1 } ∷ a_signal (Some 0) None (Some (codes "s")) ∷ [];
+  modules = the_module 0 0 ∷ [];
+  fsms = an_fsm 1 0 ((codes "IDLE", 0) ∷ (codes "RUN", 1) ∷ []) ∷ an_fsm 2 2 [] ∷ [];
+  owners = whose 1 None ∷ whose 1 (Some (codes "RUN")) ∷ whose 2 None ∷ whose 3 None ∷ whose 1 (Some (codes "IDLE")) ∷ [];
+  shaped = started (signal_of [] 1 0 ∷ signal_of [] 1 0 ∷ signal_of [] 1 0 ∷ signal_of [] 1 0 ∷ signal_of [] 1 0 ∷ []) [];
+}
+
 -- What the names and paths are.
 pub record AreWorked : Type 0 where
   -- modules of a loop have the loop's name, and their paths needn't differ
@@ -74,6 +89,7 @@ pub record AreWorked : Type 0 where
   pub by_attribute : seen inner ((bind_name binding.Local (codes "a") (value.Object 3) >>= λ _. bind_name binding.Attribute (codes "b") (value.Object 3)) rows) ≡ Ok (codes "row" ∷ codes "cell" ∷ codes "b" ∷ [])
   -- the items of a list are named from it
   pub in_a_list : seen inner (bind_name binding.Attribute (codes "c") (value.List 0) rows) ≡ Ok (codes "row" ∷ codes "c_0" ∷ codes "c_1" ∷ [])
+  pub unnamed_crossing : own_name rows (record (a_signal (Some 2) None None) { what = what.MultiReg }) ≡ codes "multireg"
   -- `name=` goes before both
   pub given : own_name rows (record (a_signal (Some 2) (Some (codes "b")) (Some (codes "a"))) { given = Some (codes "g") }) ≡ codes "g"
   -- what is handed to another module keeps the modules in which it was made
@@ -84,3 +100,5 @@ pub record AreWorked : Type 0 where
   -- a part comes last, and what is nobody's has no path
   pub part : signal_paths rows ≡ (codes "row" ∷ codes "re" ∷ []) ∷ [] ∷ []
   pub nothing : path_of rows 9 (Some (codes "re")) ≡ []
+  -- an FSM's own signal is its part `state`; what is `ongoing` of a state has the state's number, whichever was asked for first
+  pub of_fsms : signal_paths fsms ≡ (codes "ctl" ∷ codes "state" ∷ []) ∷ (codes "ctl" ∷ codes "ongoing_1" ∷ []) ∷ (codes "fsm" ∷ codes "state" ∷ []) ∷ (codes "s" ∷ []) ∷ (codes "ctl" ∷ codes "ongoing_0" ∷ []) ∷ []

@@ -36,6 +36,9 @@ fn kind_name(machine: &Machine, alloc: Global, what: What) -> Result<Word, NoMem
     match what {
         What::Signal(_) => Word::new(alloc, b"sig"),
         What::Module(at) => module_name(machine, alloc, at),
+        What::ClockDomain(_) => Word::new(alloc, b"clockdomain"),
+        What::MultiReg => Word::new(alloc, b"multireg"),
+        What::Fsm(_) => Word::new(alloc, b"fsm"),
     }
 }
 

@@ -1,10 +1,11 @@
 //! The paths of objects and of signals: the names of the modules around them, and their own.
 
-ghost use Rattle.std.specs.Prelude.{◌≡◌, ◌++◌, ◌∷◌, [], IfOk, OnOk, map, option_copied, option_to_list, reverse, slice_get};
-ghost use Rattle.lx_paths.specs.Paths.{is_top, maker_below, module_below, modules_around, object_path, own_name, owner_path, path_of, signal_paths};
+ghost use Rattle.std.specs.Prelude.{◌≡◌, ◌++◌, ◌∷◌, [], IfOk, OnOk, Some, map, option_copied, option_to_list, reverse, slice_get};
+ghost use Rattle.lx_paths.specs.Paths.{fsm_part, is_top, maker_below, module_below, modules_around, object_fsm, object_path, own_name, owner_path, path_of, signal_paths, what_fsm};
 
 use crate::names::own_name;
-use lx_state::machine::{Machine, Module, Object};
+use lx_state::machine::{Fsm, Machine, Module, Object, Owner, What};
+use lx_state::naming::item_name;
 use lx_text::{List, NoMemory, Word};
 use std::alloc::Global;
 
@@ -120,12 +121,60 @@ pub fn path_of(
     }
 }
 
+// ---- parts of FSMs
+
+fn what_fsm(machine: &Machine, what: What) -> Option<&Fsm>
+    ensures { option_copied result ≡ what_fsm machine.now what }
+{
+    match what {
+        What::Fsm(at) => machine.fsms.get(at),
+        What::Signal(_) | What::Module(_) | What::ClockDomain(_) | What::MultiReg => None,
+    }
+}
+
+/// The FSM that the object at a place is.
+pub fn object_fsm(machine: &Machine, at: usize) -> Option<&Fsm>
+    ensures { option_copied result ≡ object_fsm machine.now (slice_get machine.now.objects at) }
+{
+    match machine.objects.get(at) {
+        Some(object) => what_fsm(machine, object.what),
+        None => None,
+    }
+}
+
+// The name of a part of an FSM: `state`, or `ongoing_<k>` of the state of number k.
+fn fsm_part(alloc: Global, fsm: &Fsm, part: Option<&Word>) -> Result<Word, NoMemory>
+    ensures { IfOk result (λ name. name ≡ fsm_part fsm.now (option_copied part.entry)) }
+{
+    match part {
+        Some(name) => {
+            let number = fsm.names.get(name.as_bytes()).unwrap_or(0);
+            item_name(alloc, b"ongoing", number)
+        }
+        None => Word::new(alloc, b"state"),
+    }
+}
+
+// ---- signals
+
+fn owner_path(machine: &Machine, alloc: Global, owner: &Owner) -> Result<List<Word>, NoMemory>
+    ensures { IfOk result (λ path. path ≡ owner_path machine.now (Some owner.now)) }
+{
+    match object_fsm(machine, owner.object) {
+        Some(fsm) => {
+            let part = fsm_part(alloc, fsm, owner.part.as_ref())?;
+            path_of(machine, alloc, owner.object, Some(&part))
+        }
+        None => path_of(machine, alloc, owner.object, owner.part.as_ref()),
+    }
+}
+
 /// The path of a signal, which is empty where it is nobody's.
 pub fn signal_path(machine: &Machine, alloc: Global, signal: usize) -> Result<List<Word>, NoMemory>
     ensures { IfOk result (λ path. path ≡ owner_path machine.now (slice_get machine.now.owners signal)) }
 {
     match machine.owners.get(signal) {
-        Some(owner) => path_of(machine, alloc, owner.object, owner.part.as_ref()),
+        Some(owner) => owner_path(machine, alloc, owner),
         None => Ok(List::new(alloc)),
     }
 }

@@ -8,6 +8,7 @@ pub mod Lower
 pub mod Making
 pub mod Measures
 pub mod Operands
+pub mod Parameters
 pub mod Plain
 pub mod Restored
 pub mod Spine

@@ -1,5 +1,5 @@
 -- Small descriptions, worked by hand.
-use Rattle.std.specs.Prelude.{◌≡◌, ℕ, ◌+◌, true, false, List, [], ◌∷◌, codes, pos, negsuc, Some, None, Result, Ok, Err}
+use Rattle.std.specs.Prelude.{◌≡◌, ℕ, ◌+◌, true, false, List, [], ◌∷◌, map, codes, pos, negsuc, Some, None, Result, Ok, Err}
 use Rattle.lx_text.specs.declared.faults.Fault.{Fault}
 use Rattle.lx_text.specs.declared.faults.Kind.{Kind}
 use Rattle.lx_text.specs.declared.faults.Kind.TheVariants as kind
@@ -8,6 +8,8 @@ use Rattle.lx_syntax.specs.declared.forms.Operator.TheVariants as operator
 use Rattle.lx_syntax.specs.declared.forms.Prefix.TheVariants as prefix
 use Rattle.lx_syntax.specs.Ast as ast
 use Rattle.lx_syntax.specs.Ast.{Expr, Exprs, Stmt, Stmts}
+use Rattle.lx_state.specs.declared.machine.Fsm.{Fsm}
+use Rattle.lx_state.specs.declared.machine.Machine.{Machine}
 use Rattle.lx_state.specs.declared.machine.ModuleKind.{ModuleKind}
 use Rattle.lx_state.specs.declared.machine.ModuleKind.TheVariants as bases
 use Rattle.lx_state.specs.declared.values.Builtin.TheVariants as builtin
@@ -128,6 +130,21 @@ pub record StatementsAreRun : Type 0 where
   pub units : seen spent (execs no_class (just (ast.For 1 (codes "x" ∷ []) listed (just (ast.Pass 2)))) start) ≡ Ok 7
   -- a text that stands alone is not made
   pub text_alone : seen spent (execs no_class (just (ast.Value 1 (ast.Quoted 1 (codes "a text")))) start) ≡ Ok 1
+
+-- ---- state machines
+
+-- `FSM().act(*["A"])`
+abbrev pub act : Expr
+act = ast.Post 1 (ast.Name 1 (codes "FSM")) (ast.call ast.no_argument (ast.attribute (codes "act") (ast.call (ast.starred (ast.Listed 1 (ast.more (ast.Quoted 1 (codes "A")) ast.none)) ast.no_argument) ast.no_trailer)))
+
+abbrev pub state_names : Machine → List (List (List ℕ))
+state_names m = map (λ (f : Fsm). map (λ (e : List ℕ × ℕ). e.0) f.names) m.fsms
+
+pub record FsmsAreRun : Type 0 where
+  pub nothing_given : given act ≡ Ok value.Nothing
+  pub states : seen state_names (eval no_class act start) ≡ Ok ((codes "A" ∷ []) ∷ [])
+  -- a unit for each of both calls, for the text and for the list
+  pub units : seen spent (eval no_class act start) ≡ Ok 4
 
 -- ---- classes
 

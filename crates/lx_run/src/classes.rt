@@ -1,8 +1,6 @@
 //! Going through the classes of a description, and making its top.
 
 ghost use Rattle.std.specs.Prelude.{[], ◌≡◌, All, IfOk, length, map, slice_get};
-ghost use Rattle.std.specs.List.{list_any};
-ghost use Rattle.std.specs.Str.{bytes_eq};
 ghost use Rattle.lx_syntax.specs.Classes.{base_of};
 ghost use Rattle.lx_syntax.specs.Forms.{bound_at, class_of, classes_of, expr_of, param_at};
 ghost use Rattle.lx_state.specs.Changes.{changed};
@@ -26,7 +24,7 @@ use lx_state::work::{fault, unknown};
 use lx_syntax::{ClassForm, Parameter, Syntax};
 use lx_text::{Kind, List, NoMemory, Refusal, Word};
 use lx_token::Token;
-use lx_value::Param;
+use lx_value::{Param, Seen};
 use std::alloc::Global;
 
 // ---- parameters
@@ -291,39 +289,31 @@ fn defaults_run(
     Ok(defaults)
 }
 
-// Whether a name is that of a parameter behind it.
-fn is_repeated(syntax: &Syntax, name: &[u8], params: &[Parameter]) -> bool
-    ensures { result ≡ list_any (bytes_eq name.now) (map param_name (map (param_at syntax.now.src (expr_of syntax.now)) params.now)) }
-{
-    for param in params {
-        if name == syntax.text(&param.name) {
-            return true;
-        }
-    }
-    false
-}
-
 // Whether no two parameters, with `self`, have one name.
-fn are_params(syntax: &Syntax, params: &[Parameter]) -> bool
-    ensures { result ≡ are_params (map (param_at syntax.now.src (expr_of syntax.now)) params.now) }
+fn are_params(alloc: Global, syntax: &Syntax, params: &[Parameter]) -> Result<bool, NoMemory>
+    ensures { IfOk result (λ are. are ≡ are_params (map (param_at syntax.now.src (expr_of syntax.now)) params.now)) }
 {
-    if is_repeated(syntax, b"self", params) {
-        return false;
-    }
-    for (at, param) in params.iter().enumerate() {
-        if is_repeated(syntax, syntax.text(&param.name), &params[at + 1..]) {
-            return false;
+    let mut seen = Seen::new(alloc);
+    seen.add(b"self")?;
+    for param in params {
+        if !seen.add(syntax.text(&param.name))? {
+            return Ok(false);
         }
     }
-    true
+    Ok(true)
 }
 
 #[tactic(auto, unfolding(crate::specs::Classes::params_fit))]
-fn params_fit(machine: &Machine, syntax: &Syntax, class: &ClassForm) -> Result<(), Refusal>
+fn params_fit(
+    machine: &Machine,
+    alloc: Global,
+    syntax: &Syntax,
+    class: &ClassForm,
+) -> Result<(), Refusal>
     ensures { Gives result machine.now (params_fit (class_of syntax.now class.now) machine.now) }
 {
     let _machine = machine;
-    if are_params(syntax, class.params.as_slice()) {
+    if are_params(alloc, syntax, class.params.as_slice())? {
         Ok(())
     } else {
         Err(fault(class.init_line, Kind::WrongCount))
@@ -409,7 +399,7 @@ fn class_run(
     let name = syntax.text(&class.name);
     machine.name_fits(class.line, name)?;
     let kind = bases_run(machine, alloc, syntax, last, class.bases.as_slice())?;
-    params_fit(machine, syntax, class)?;
+    params_fit(machine, alloc, syntax, class)?;
     let at = keep_class(machine, alloc, name, kind)?;
     class_defaults(machine, alloc, syntax, depth, at, class)
 }

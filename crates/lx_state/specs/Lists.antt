@@ -38,24 +38,41 @@ abbrev pub some_leaves : Option Items → Leaves
 some_leaves (Some i) = i.leaves
 some_leaves None = leaves.Others
 
+abbrev pub leaf_of_what : What → Leaves
+leaf_of_what (what.Signal x) = leaves.Others
+leaf_of_what (what.Module at) = leaves.Modules
+leaf_of_what (what.ClockDomain d) = leaves.ClockDomains
+leaf_of_what what.MultiReg = leaves.Specials
+-- an FSM is added as a module is
+leaf_of_what (what.Fsm k) = leaves.Modules
+
 abbrev pub leaf_of : Option Object → Leaves
 leaf_of None = leaves.Others
-leaf_of (Some o) = elim o.what as (λ _. Leaves) [ what.Module m ↦ leaves.Modules | what.Signal s ↦ leaves.Others ]
+leaf_of (Some o) = leaf_of_what o.what
+
+-- a statement with `NextState` or `NextValue` in it stands in a state alone
+abbrev pub made_leaves : Option Made → Leaves
+made_leaves None = leaves.Others
+made_leaves (Some s) = if s.in_state then leaves.StateStatements else leaves.Statements
 
 -- what hangs in a value; a value that is no list hangs there itself
 abbrev pub leaves_of : Machine → Value → Leaves
 leaves_of m (value.List at) = some_leaves (slice_get m.lists at)
 leaves_of m (value.Tuple at) = some_leaves (slice_get m.lists at)
-leaves_of m (value.Made at) = leaves.Statements
+leaves_of m (value.Made at) = made_leaves (slice_get m.made at)
 leaves_of m (value.Object at) = leaf_of (slice_get m.objects at)
 leaves_of m _ = leaves.Others
 
 abbrev pub joined : Leaves → Leaves → Leaves
 joined leaves.Nothing b = b
-joined leaves.Statements leaves.Nothing = leaves.Statements
+joined a leaves.Nothing = a
 joined leaves.Statements leaves.Statements = leaves.Statements
-joined leaves.Modules leaves.Nothing = leaves.Modules
+joined leaves.Statements leaves.StateStatements = leaves.StateStatements
+joined leaves.StateStatements leaves.Statements = leaves.StateStatements
+joined leaves.StateStatements leaves.StateStatements = leaves.StateStatements
 joined leaves.Modules leaves.Modules = leaves.Modules
+joined leaves.ClockDomains leaves.ClockDomains = leaves.ClockDomains
+joined leaves.Specials leaves.Specials = leaves.Specials
 joined _ _ = leaves.Others
 
 abbrev pub all_leaves : Machine → List Value → Leaves

@@ -20,6 +20,13 @@ use Rattle.lx_state.specs.Step.{Step, give, ◌>>=◌}
 unfoldable pub object_made : What → ℕ → Option (List ℕ) → Step ℕ
 object_made what line given m = give (length m.objects) (record m { objects = m.objects ++ record { what = what; line = line; maker = m.frame.this; given = given; by_attribute = None; by_local = None } ∷ [] })
 
+abbrev pub turned : What → Object → Object
+turned what o = record o { what = what }
+
+-- an object is something else from now on
+unfoldable pub turn_object : What → ℕ → Step (Unit {0})
+turn_object what at m = give tt (record m { objects = changed m.objects at (turned what) })
+
 -- the first name counts
 abbrev pub first_name : Option (List ℕ) → List ℕ → Option (List ℕ)
 first_name (Some old) name = Some old

@@ -11,6 +11,10 @@ use Rattle.lx_state.specs.Step.{Step, give, fault, ◌>>=◌}
 unfoldable pub within : ℕ → LimitKind → ℕ → Step (Unit {0})
 within line what n m = if nat_lt (limit_number what) n then fault line (kind.Limit what) m else give tt m
 
+-- where so many are there already, one more may come
+unfoldable pub one_more : ℕ → LimitKind → ℕ → Step (Unit {0})
+one_more line what count m = if nat_lt count (limit_number what) then give tt m else fault line (kind.Limit what) m
+
 -- units of work
 unfoldable pub spend : ℕ → ℕ → Step (Unit {0})
 spend line units m = if nat_lt (limit_number limit.Work) (m.spent + units)

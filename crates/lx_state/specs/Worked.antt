@@ -10,21 +10,23 @@ use Rattle.lx_state.specs.declared.values.Value.TheVariants as value
 use Rattle.lx_state.specs.declared.machine.Binding.{Binding}
 use Rattle.lx_state.specs.declared.machine.Binding.TheVariants as binding
 use Rattle.lx_state.specs.declared.machine.Class.{Class}
+use Rattle.lx_state.specs.declared.machine.Form.TheVariants as form
 use Rattle.lx_state.specs.declared.machine.Items.{Items}
 use Rattle.lx_state.specs.declared.machine.Leaves.TheVariants as leaves
 use Rattle.lx_state.specs.declared.machine.Machine.{Machine}
+use Rattle.lx_state.specs.declared.machine.Made.{Made}
 use Rattle.lx_state.specs.declared.machine.ModuleKind.TheVariants as bases
 use Rattle.lx_state.specs.declared.machine.Object.{Object}
 use Rattle.lx_state.specs.declared.machine.What.TheVariants as what
 use Rattle.lx_state.specs.Frames.{hide, meaning, restore, set_local, set_param}
-use Rattle.lx_state.specs.Lists.{depth_of, list_made, sizes_of}
+use Rattle.lx_state.specs.Lists.{all_leaves, depth_of, list_made, sizes_of}
 use Rattle.lx_state.specs.Naming.{bind_name}
 use Rattle.lx_state.specs.Step.{Step, Outcome, give, ◌>>=◌}
 use Rattle.lx_state.specs.Work.{spend}
 
 -- nothing was made
 abbrev pub start : Machine
-start = record { spent = 0; nodes = 0; classes = []; shaped = started [] []; owners = []; objects = []; modules = []; texts = []; lists = []; dictionaries = []; made = []; domains = []; frame = record { locals = []; this = None; class = 0 } }
+start = record { spent = 0; nodes = 0; classes = []; shaped = started [] []; owners = []; objects = []; modules = []; fsms = []; texts = []; lists = []; dictionaries = []; made = []; fsm_stmts = []; domains = []; specials = record { comb = []; sync = [] }; frame = record { locals = []; this = None; class = 0 } }
 
 -- ---- what is seen of an outcome
 
@@ -74,6 +76,17 @@ around name = do
 abbrev pub locals : Machine → List (List ℕ × Value)
 locals m = m.frame.locals
 
+abbrev pub a_statement : Bool → Made
+a_statement in_state = record { form = form.Else 0 []; line = 1; size = 1; depth = 1; in_state = in_state }
+
+-- a `ClockDomain`, two `MultiReg`s, a module, an FSM, and `[]`; a statement, and one that stands in a state alone
+abbrev pub kinds : Machine
+kinds = record start {
+  objects = record object { what = what.ClockDomain (record { reset = true; bound = false }) } ∷ record object { what = what.MultiReg } ∷ record object { what = what.MultiReg } ∷ object ∷ record object { what = what.Fsm 0 } ∷ [];
+  lists = record (items [] 1) { leaves = leaves.Nothing } ∷ [];
+  made = a_statement false ∷ a_statement true ∷ [];
+}
+
 -- What steps do.
 pub record AreWorked : Type 0 where
   -- the items of a nested list are named from it
@@ -87,6 +100,17 @@ pub record AreWorked : Type 0 where
   pub a_level_more : seen (λ m. depth_of m (value.List 2)) (list_made 1 (value.List 1 ∷ value.Int (pos 3) ∷ []) nested) ≡ Ok 3
   pub sixty_four_levels : seen spent (list_made 1 (value.List 1 ∷ []) deep) ≡ Ok 1
   pub too_deep : seen spent (list_made 9 (value.List 0 ∷ []) deep) ≡ Err (record { line = 9; kind = kind.Limit limit.Depth })
+  -- what hangs in values is of one kind, or of several
+  pub one_kind : all_leaves kinds (value.Object 1 ∷ value.List 0 ∷ value.Object 2 ∷ []) ≡ leaves.Specials
+  pub another_kind : all_leaves kinds (value.Tuple 0 ∷ value.Object 0 ∷ []) ≡ leaves.ClockDomains
+  pub two_kinds : all_leaves kinds (value.Object 3 ∷ value.Object 1 ∷ []) ≡ leaves.Others
+  pub two_kinds_more : all_leaves kinds (value.Object 0 ∷ value.Object 1 ∷ []) ≡ leaves.Others
+  pub fsm_beside_module : all_leaves kinds (value.Object 3 ∷ value.Object 4 ∷ []) ≡ leaves.Modules
+  -- one statement that stands in a state alone is enough
+  pub plain_statements : all_leaves kinds (value.Made 0 ∷ value.Tuple 0 ∷ value.Made 0 ∷ []) ≡ leaves.Statements
+  pub state_statement_first : all_leaves kinds (value.Made 1 ∷ value.Made 0 ∷ []) ≡ leaves.StateStatements
+  pub state_statement_last : all_leaves kinds (value.Made 0 ∷ value.Made 1 ∷ []) ≡ leaves.StateStatements
+  pub statement_beside_fsm : all_leaves kinds (value.Made 1 ∷ value.Object 4 ∷ []) ≡ leaves.Others
   pub too_much_work : seen spent (spend 9 1000001 start) ≡ Err (record { line = 9; kind = kind.Limit limit.Work })
   -- of two classes above with one name the nearer one counts, and a class doesn't see itself
   pub first_class : meaning (classes 0) (codes "A") ≡ None

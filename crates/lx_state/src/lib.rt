@@ -11,7 +11,7 @@ pub mod work;
 pub mod worked;
 
 pub use machine::{
-    Binding, Class, DomainState, Form, Frame, Items, Leaves, Machine, Made, MadeArm, Module,
-    ModuleKind, Object, Owner, Pair, Submodule, SyncItem, What,
+    Binding, Class, ClockDomain, DomainState, Form, Frame, Fsm, Items, Leaves, Machine, Made,
+    MadeArm, Module, ModuleKind, Object, Ongoing, Owner, Pair, Specials, Submodule, SyncItem, What,
 };
 pub use values::{Builtin, Method, Value};

@@ -2,7 +2,7 @@
 
 ghost use Rattle.std.specs.Prelude.{◌≡◌, ◌≤◌, IfOk, option_copied, slice_get};
 ghost use Rattle.lx_state.specs.Step.{Gives};
-ghost use Rattle.lx_state.specs.Lists.{all_leaves, array_at, array_made, array_of, deeper, deepest, depth_of, dictionary_made, int_of, ints_of, integer, items_at, items_made, items_of, joined, keep_items, leaf_of, leaves_of, list_at, list_made, list_of, made_size, pairs_at, pairs_of, size_of, sizes_of, some_depth, some_leaves, some_size, text_at, text_made, text_of, tuple_made, values_of};
+ghost use Rattle.lx_state.specs.Lists.{all_leaves, array_at, array_made, array_of, deeper, deepest, depth_of, dictionary_made, int_of, ints_of, integer, items_at, items_made, items_of, joined, keep_items, leaf_of, leaf_of_what, leaves_of, list_at, list_made, list_of, made_leaves, made_size, pairs_at, pairs_of, size_of, sizes_of, some_depth, some_leaves, some_size, text_at, text_made, text_of, tuple_made, values_of};
 
 use crate::machine::{Binding, Items, Leaves, Machine, Pair, What};
 use crate::values::Value;
@@ -24,15 +24,28 @@ fn joined(first: Leaves, second: Leaves) -> Leaves
 {
     match (first, second) {
         (Leaves::Nothing, _) => second,
-        (Leaves::Statements, Leaves::Nothing) => first,
+        (_, Leaves::Nothing) => first,
         (Leaves::Statements, Leaves::Statements) => first,
-        (Leaves::Modules, Leaves::Nothing) => first,
+        (Leaves::Statements, Leaves::StateStatements) => second,
+        (Leaves::StateStatements, Leaves::Statements) => first,
+        (Leaves::StateStatements, Leaves::StateStatements) => first,
         (Leaves::Modules, Leaves::Modules) => first,
-        (Leaves::Statements, Leaves::Modules) => Leaves::Others,
-        (Leaves::Statements, Leaves::Others) => Leaves::Others,
-        (Leaves::Modules, Leaves::Statements) => Leaves::Others,
-        (Leaves::Modules, Leaves::Others) => Leaves::Others,
-        (Leaves::Others, _) => Leaves::Others,
+        (Leaves::ClockDomains, Leaves::ClockDomains) => first,
+        (Leaves::Specials, Leaves::Specials) => first,
+        _ => Leaves::Others,
+    }
+}
+
+// What hangs where an object stands that is this.
+fn leaf_of_what(what: What) -> Leaves
+    ensures { result ≡ leaf_of_what what }
+{
+    match what {
+        What::Signal(_) => Leaves::Others,
+        What::Module(_) => Leaves::Modules,
+        What::ClockDomain(_) => Leaves::ClockDomains,
+        What::MultiReg => Leaves::Specials,
+        What::Fsm(_) => Leaves::Modules,
     }
 }
 
@@ -72,7 +85,7 @@ impl Machine {
     {
         match value {
             Value::List(at) | Value::Tuple(at) => self.leaves_at(at),
-            Value::Made(_) => Leaves::Statements,
+            Value::Made(at) => self.made_leaves(at),
             Value::Object(at) => self.leaf_of(at),
             _ => Leaves::Others,
         }
@@ -87,14 +100,28 @@ impl Machine {
         }
     }
 
-    fn leaf_of(&self, at: usize) -> Leaves
+    // What hangs where a statement stands itself.
+    fn made_leaves(&self, at: usize) -> Leaves
+        ensures { result ≡ made_leaves (slice_get self.now.made at) }
+    {
+        match self.made.get(at) {
+            Some(made) => {
+                if made.in_state {
+                    Leaves::StateStatements
+                } else {
+                    Leaves::Statements
+                }
+            }
+            None => Leaves::Others,
+        }
+    }
+
+    /// What hangs where an object stands itself.
+    pub fn leaf_of(&self, at: usize) -> Leaves
         ensures { result ≡ leaf_of (slice_get self.now.objects at) }
     {
         match self.objects.get(at) {
-            Some(object) => match object.what {
-                What::Module(_) => Leaves::Modules,
-                What::Signal(_) => Leaves::Others,
-            },
+            Some(object) => leaf_of_what(object.what),
             None => Leaves::Others,
         }
     }

@@ -1,6 +1,7 @@
 //! The machine that holds what a running description has made.
 
 use crate::values::Value;
+use lx_description::FsmStmts;
 use lx_fhdl::{ExprId, SigId, TargetId};
 use lx_names::Table;
 use lx_shaped::Shaped;
@@ -23,14 +24,27 @@ pub struct Machine {
     /// All that can be named, in order of making.
     pub objects: List<Object>,
     pub modules: List<Module>,
+    pub fsms: List<Fsm>,
     pub texts: List<Word>,
     /// The items of lists, tuples and Arrays.
     pub lists: List<Items>,
     pub dictionaries: List<List<Pair>>,
     pub made: List<Made>,
+    /// The statements of FSMs, once they are laid out.
+    pub fsm_stmts: FsmStmts,
     /// The clock domains, in order of first mention.
     pub domains: Table<DomainState>,
+    pub specials: Specials,
     pub frame: Frame,
+}
+
+/// The statements that stand for what takes part once it is made. They stand before those of all modules.
+#[derive(Drop)]
+pub struct Specials {
+    /// The combinatorial ones.
+    pub comb: List<usize>,
+    /// The synchronous ones.
+    pub sync: List<SyncItem>,
 }
 
 /// The names of the `__init__` that runs.
@@ -84,8 +98,14 @@ pub enum Leaves {
     Nothing,
     /// Statements alone.
     Statements,
-    /// Modules alone.
+    /// Statements, some of which may stand in a state of an FSM alone.
+    StateStatements,
+    /// Modules and FSMs alone.
     Modules,
+    /// `ClockDomain`s alone.
+    ClockDomains,
+    /// `MultiReg`s alone.
+    Specials,
     /// Something else, or things of several kinds.
     Others,
 }
@@ -126,13 +146,55 @@ pub struct Object {
 pub enum What {
     Signal(SigId),
     Module(usize),
+    ClockDomain(ClockDomain),
+    MultiReg,
+    Fsm(usize),
 }
 
-/// Whose a signal is: an object's own, or a part of one.
+/// A `ClockDomain`, which declares a domain when it is first bound to an attribute.
+#[derive(Clone, Copy)]
+pub struct ClockDomain {
+    /// Whether the domain has a reset.
+    pub reset: bool,
+    /// Whether an attribute was bound to it.
+    pub bound: bool,
+}
+
+/// Whose a signal is: an object's own, or a part of one. An FSM's own is `state`, and a part of it is named by the state
+/// that it is `ongoing` of.
 #[derive(Drop)]
 pub struct Owner {
     pub object: usize,
     pub part: Option<Word>,
+}
+
+/// A state machine (`FSM`) with the states that it has so far.
+#[derive(Drop)]
+pub struct Fsm {
+    /// Its place among the objects.
+    pub object: usize,
+    /// The place of the module by which it is added to others. It has nothing of its own.
+    pub module: usize,
+    /// The signal `state`, whose bits are known once all states are.
+    pub state: SigId,
+    /// `reset_state=`.
+    pub start: Option<Word>,
+    /// The name of each state, with its place among the bodies, in the order of the first `act`s.
+    pub names: Table<usize>,
+    /// For each state the statements of all its `act`s.
+    pub bodies: List<List<usize>>,
+    /// What was asked for by `ongoing`, by the state's name, in the order of the first calls.
+    pub asked: Table<Ongoing>,
+}
+
+/// A signal that is 1 in a state.
+#[derive(Clone, Copy)]
+pub struct Ongoing {
+    pub signal: SigId,
+    /// The expression that reads it.
+    pub read: ExprId,
+    /// The line of the first call.
+    pub line: u32,
 }
 
 /// A module and its fragment.
@@ -185,6 +247,8 @@ pub struct Made {
     pub size: u32,
     /// The levels of statements and targets in it.
     pub depth: u8,
+    /// Whether `NextState` or `NextValue` stands in it, so that it may stand in a state alone.
+    pub in_state: bool,
 }
 
 /// The form of a statement.
@@ -209,6 +273,14 @@ pub enum Form {
         on: ExprId,
         arms: List<MadeArm>,
         rest: List<usize>,
+    },
+    /// `NextState`, with the place of the name among the texts.
+    NextState {
+        name: usize,
+    },
+    NextValue {
+        target: TargetId,
+        value: ExprId,
     },
 }
 

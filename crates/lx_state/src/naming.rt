@@ -1,9 +1,9 @@
 //! Objects, and the names that bindings give them.
 
-ghost use Rattle.std.specs.Prelude.{◌≡◌, ◌∷◌, IfOk, Some, slice_get};
+ghost use Rattle.std.specs.Prelude.{◌≡◌, ◌∷◌, IfOk, Ok, Some, slice_get};
 ghost use Rattle.lx_state.specs.Step.{Gives};
 ghost use Rattle.lx_state.specs.Changes.{changed};
-ghost use Rattle.lx_state.specs.Naming.{bind_items, bind_list, bind_name, bind_within, first_name, is_later, item_name, mark, marked, name_object, name_some, named_by, object_made, own_signal, signal_object, unnamed};
+ghost use Rattle.lx_state.specs.Naming.{bind_items, bind_list, bind_name, bind_within, first_name, is_later, item_name, mark, marked, name_object, name_some, named_by, object_made, own_signal, signal_object, turn_object, turned, unnamed};
 
 use crate::lists::copied;
 use crate::machine::{Binding, Items, Leaves, Machine, Object, What};
@@ -100,6 +100,18 @@ fn no_object() -> Object {
     }
 }
 
+// The object at a place is something else from now on.
+#[tactic(auto, using(crate::proofs::Changes::changed_there, crate::proofs::Changes::set_twice, crate::proofs::Changes::not_changed))]
+fn turn_there(objects: &mut List<Object>, at: usize, what: What)
+    ensures { objects.new ≡ changed objects.old at (turned what) }
+{
+    if at < objects.len() {
+        let mut object = objects.replace(at, no_object());
+        object.what = what;
+        objects.replace(at, object);
+    }
+}
+
 // The object at a place is bound to a name.
 #[tactic(auto, using(crate::proofs::Changes::changed_there, crate::proofs::Changes::set_twice, crate::proofs::Changes::not_changed))]
 fn name_there(objects: &mut List<Object>, at: usize, binding: Binding, name: Word)
@@ -174,6 +186,14 @@ impl Machine {
             by_local: None,
         })?;
         Ok(place)
+    }
+
+    /// An object is something else from now on.
+    #[tactic(auto, unfolding(crate::specs::Naming::turn_object))]
+    pub fn turn_object(&mut self, what: What, at: usize)
+        ensures { turn_object what at self.old ≡ Ok (tt, self.new) }
+    {
+        turn_there(&mut self.objects, at, what);
     }
 
     // An object is bound to a name.

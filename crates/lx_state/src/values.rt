@@ -38,6 +38,10 @@ pub enum Method {
     Else(usize),
     /// `super().__init__` of a module.
     Init(usize),
+    /// `act` of an FSM.
+    Act(usize),
+    /// `ongoing` of an FSM.
+    Ongoing(usize),
 }
 
 /// The names that every description may use ("Built-in names" of the description's language).

@@ -3,7 +3,7 @@
 ghost use Rattle.std.specs.Prelude.{◌≡◌};
 ghost use Rattle.lx_text.specs.declared.faults.Kind.TheVariants as wrong;
 ghost use Rattle.lx_state.specs.Step.{Gives, IsFault};
-ghost use Rattle.lx_state.specs.Work.{name_fits, spend, spend_nodes, within};
+ghost use Rattle.lx_state.specs.Work.{name_fits, one_more, spend, spend_nodes, within};
 
 use crate::machine::Machine;
 use lx_text::faults::greatest;
@@ -69,6 +69,18 @@ impl Machine {
             Err(limit(line, what))
         } else {
             Ok(())
+        }
+    }
+
+    /// Tells whether one more may come where so many are there already.
+    #[tactic(auto, unfolding(crate::specs::Work::one_more))]
+    pub fn one_more(&self, line: u32, what: LimitKind, count: usize) -> Result<(), Refusal>
+        ensures { Gives result self.now (one_more line what count self.now) }
+    {
+        if (count as u64) < greatest(what) as u64 {
+            Ok(())
+        } else {
+            Err(limit(line, what))
         }
     }
 

@@ -1,3 +1,5 @@
+pub mod Binding
 pub mod NumberLawsShown
 pub mod Patterns
 pub mod Ranges
+pub mod Repeats

@@ -1,10 +1,11 @@
 -- Which argument each parameter of a call gets.
-use Rattle.std.specs.Prelude.{◌≡◌, ℕ, ◌+◌, Bool, true, false, not, ◌&&◌, ◌||◌, List, map, count_by, position, drop, Option, Some, None, Result, Ok, Err, nat_lt, nat_eq, if◌then◌else◌}
+use Rattle.std.specs.Prelude.{◌≡◌, ℕ, ◌+◌, Bool, true, false, not, ◌&&◌, ◌||◌, List, [], map, count_by, position, drop, Option, Some, None, Result, Ok, Err, nat_lt, nat_eq, if◌then◌else◌}
 use Rattle.std.specs.List.{list_any, list_all, enumerate_from}
 use Rattle.std.specs.Str.{bytes_eq}
 use Rattle.lx_value.specs.declared.arguments.Param.{Param}
 use Rattle.lx_value.specs.declared.arguments.Bound.{Bound}
 use Rattle.lx_value.specs.declared.arguments.Bound.TheVariants.{Placed, Key, Missing}
+use Rattle.lx_value.specs.Seen.{are_new}
 use Rattle.lx_value.specs.declared.arguments.BindFault.{BindFault}
 use Rattle.lx_value.specs.declared.arguments.BindFault.TheVariants.{WrongCount, NoMemory}
 
@@ -63,3 +64,12 @@ Binds params placed keys (Ok bounds) =
     (is_wrong_count params placed keys ≡ false) × (bounds ≡ bounds_of params placed keys)
 Binds params placed keys (Err WrongCount) = is_wrong_count params placed keys ≡ true
 Binds params placed keys (Err NoMemory) = Unit {0}
+
+-- the names of arguments, each once, where none stands twice
+abbrev pub AreGiven : List (List ℕ) → Option (List (List ℕ)) → Type 0
+AreGiven keys (Some given) = (given ≡ keys) × (are_new [] keys ≡ true)
+AreGiven keys None = are_new [] keys ≡ false
+
+-- the names of parameters
+abbrev pub AreKnown : List Param → List (List ℕ) → Type 0
+AreKnown params known = (key : List ℕ) → list_any (bytes_eq key) known ≡ is_known params key

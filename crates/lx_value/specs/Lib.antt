@@ -1,3 +1,4 @@
 pub mod Arguments
 pub mod NumberLaws
 pub mod Numbers
+pub mod Seen

@@ -1,5 +1,5 @@
-use Rattle.lx_describe.proofs.Shapes.{renamed}
+use Rattle.lx_describe.proofs.Shapes.{finished}
 use Rattle.lx_describe.proofs.describing.description_of.Goals as goal
 
-pub design_of-design-requires : goal.design_of-design-requires
-design_of-design-requires c = renamed c.args.machine.now c.replace-shaped.result c.in_ok-signals.signals c.replace-shaped.ensures.value c.in_ok-signals.ensures
+pub returns-clause-arenas : goal.returns-clause-arenas
+returns-clause-arenas c = finished c.args.machine.now c.replace-shaped.result c.design_of-design.result _ _ _ _ c.requires c.replace-shaped.ensures.value c.design_of-design.ensures.keeps c.in_ok-signals.ensures c.design_of-design.ensures.is

@@ -1,8 +1,13 @@
 use Rattle.std.proofs.Common.{rules}
-use Rattle.lx_elab.proofs.Same.{test_holds}
+use Rattle.lx_elab.proofs.Same.{bodies_hold, design_holds}
 use Rattle.lx_elab.proofs.elaboration.kept.Goals as goal
 
 pub returns-clause-keeps : goal.returns-clause-keeps
 returns-clause-keeps c =
     let passes = c.if-not-branch.false in
-    test_holds c.args.description.design c.in_ok-is_kept.field-0 c.in_ok-is_kept.ensures (search (rules, passes))
+    design_holds c.args.description c.in_ok-keeps.field-0 c.in_ok-keeps.ensures (search (rules, passes))
+
+pub returns-clause-bodies : goal.returns-clause-bodies
+returns-clause-bodies c =
+    let passes = c.if-not-branch.false in
+    bodies_hold c.args.description c.in_ok-keeps.field-0 c.in_ok-keeps.ensures (search (rules, passes))

@@ -13,10 +13,12 @@ returns c = record {
   by_local = refl;
   by_attribute = refl;
   in_a_list = refl;
+  unnamed_crossing = refl;
   given = refl;
   handed = refl;
   in_a_default = refl;
   in_a_spare = refl;
   part = refl;
   nothing = refl;
+  of_fsms = refl;
 }

@@ -1,0 +1,16 @@
+pub mod Acts
+pub mod Grown
+pub mod Held
+pub mod InState
+pub mod Instance
+pub mod Known
+pub mod Law
+pub mod Lowered
+pub mod Naming
+pub mod Numbering
+pub mod Ongoing
+pub mod Puts
+pub mod Ready
+pub mod Taken
+pub mod Undriven
+pub mod Whole

@@ -1,0 +1,5 @@
+use Rattle.lx_fsm.proofs.Puts.{put_last}
+use Rattle.lx_fsm.proofs.states.put_stmt.Goals as goal
+
+pub returns : goal.returns
+returns c = put_last _ _ _ _ _ _ c.requires.out c.in_ok-id.ensures.ok c.in_ok-push.ensures.ok

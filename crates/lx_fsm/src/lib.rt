@@ -1,0 +1,13 @@
+//! Finite state machines become statements of a design (Migen's `genlib.fsm`): in each state the statements that stand in
+//! it are taken, a register of the clock domain `sys` is the state's number, and `ongoing` of a state is 1 in it.
+#![tactic(auto)]
+
+mod checks;
+pub mod laws;
+mod lowering;
+mod numbers;
+mod source;
+mod states;
+
+pub use checks::check_fsm;
+pub use lowering::{FsmLists, lower_fsm};
