@@ -320,6 +320,11 @@ class If:
         whole.branches, whole.rest = self.branches, leaves(body)
         return whole
 
+    def with_bodies(self, change):
+        whole = If(0)
+        whole.branches, whole.rest = [(cond, change(body)) for cond, body in self.branches], change(self.rest)
+        return whole
+
     def taken(self, values):
         for cond, body in self.branches:
             if cond.value(values):
@@ -334,6 +339,9 @@ class Case:
     def __init__(self, e, d):
         self.on, self.arms = expr(e), {key: leaves([body]) for key, body in d.items()}
 
+    def with_bodies(self, change):
+        return Case(self.on, {key: change(body) for key, body in self.arms.items()})
+
     def taken(self, values):
         body = self.arms.get(self.on.value(values), self.arms.get("default", []))
         return [piece for s in body for piece in s.taken(values)]
@@ -342,11 +350,94 @@ class Case:
         return set().union(*[s.driven() for body in self.arms.values() for s in body])
 
 
+# ---- state machines
+
+
+class NextState:
+    def __init__(self, name):
+        self.name = name
+
+
+class NextValue:
+    def __init__(self, target, value):
+        self.assign = target.eq(value)
+
+
+class FSM:
+    """Its states are numbered in the order of their first `act`. It stands for statements of `comb` and of `sys`."""
+
+    def __init__(self, reset_state=None):
+        self.start, self.bodies, self.asked, self.state = reset_state, {}, {}, Signal()
+        mention("sys")
+
+    def act(self, name, *body):
+        self.bodies.setdefault(name, []).extend(leaves(body))
+
+    def ongoing(self, name):
+        if name not in self.asked:
+            self.asked[name] = Signal()
+        return self.asked[name]
+
+    def number(self, name):
+        return list(self.bodies).index(name)
+
+    def part(self, body, name):
+        """What these statements of a state do in `comb`, or at a clock edge of `sys`."""
+        return [at for s in body for at in self.parts(s, name)]
+
+    def parts(self, s, name):
+        if isinstance(s, (If, Case)):
+            yield s.with_bodies(lambda body: self.part(body, name))
+        elif isinstance(s, NextState):
+            yield from [self.state.eq(self.number(s.name))] * (name == "sys")
+        elif isinstance(s, NextValue):
+            yield from [s.assign] * (name == "sys")
+        else:
+            yield from [s] * (name == "comb")
+
+    def statements(self):
+        self.state.bits = bits_for(len(self.bodies) - 1)
+        self.state.reset = 0 if self.start is None else self.number(self.start)
+        states = [(self.state == k, body) for k, body in enumerate(self.bodies.values())]
+        taken = [(name, If(here, self.part(body, name))) for here, body in states for name in ("comb", "sys")]
+        return taken + [("comb", signal.eq(self.state == self.number(name))) for name, signal in self.asked.items()]
+
+
 # ---- modules
 
 
+class ClockDomain:
+    """It is declared by the first attribute that is bound to it itself."""
+
+    def __init__(self, reset_less=False):
+        self.has_reset, self.is_declared = not reset_less, False
+
+    def declare(self, attribute):
+        name = attribute[len("cd_") :] if attribute.startswith("cd_") else attribute
+        if not self.is_declared:
+            mention(name)
+            Module.declared.setdefault(name, self.has_reset)
+        self.is_declared = True
+
+
+class MultiReg:
+    """Passes `i` to `o` through registers that no reset touches."""
+
+    def __init__(self, i, o, odomain="sys", n=2):
+        i = expr(i)
+        regs = [Signal((i.bits, i.signed), reset_less=True) for _ in range(n)]
+        mention(odomain)
+        Module.crossings += [(odomain, r.eq(before)) for before, r in zip([i, *regs], regs)]
+        Module.crossings.append(("comb", o.eq(regs[-1] if regs else i)))
+
+
+def mention(domain):
+    if domain not in Module.mentioned:
+        Module.mentioned.append(domain)
+
+
 class Part:
-    """`comb`, `sync`, a domain of `sync`, or `submodules` of a module."""
+    """`comb`, `sync`, a domain of `sync`, `submodules`, `specials` or `clock_domains` of a module."""
 
     def __init__(self, module, name):
         self.__dict__.update(module=module, name=name)
@@ -360,16 +451,18 @@ class Part:
 
     def __setattr__(self, name, value):
         if not isinstance(value, Part):
-            self.module.add("submodules", [value])
-            object.__setattr__(self.module, name, value)
+            self.module.add(self.name, [value])
+            self.module.bind(name, value)
 
 
-PARTS = {"comb": "comb", "sync": "sys", "submodules": "submodules"}
+PARTS = {"comb": "comb", "sync": "sys", "submodules": "submodules", "specials": "specials", "clock_domains": "clock_domains"}
 
 
 class Module:
     adds_by_binding = False
     mentioned = []
+    declared = {}
+    crossings = []
 
     def own(self):
         return self.__dict__.setdefault("(statements)", []), self.__dict__.setdefault("(modules)", [])
@@ -381,18 +474,24 @@ class Module:
 
     def __setattr__(self, name, value):
         if name not in PARTS:
-            if self.adds_by_binding and isinstance(value, Module):
+            if self.adds_by_binding and isinstance(value, (Module, FSM)):
                 self.add("submodules", [value])
-            object.__setattr__(self, name, value)
+            self.bind(name, value)
+
+    def bind(self, name, value):
+        if isinstance(value, ClockDomain):
+            value.declare(name)
+        object.__setattr__(self, name, value)
 
     def add(self, name, things):
         statements, modules = self.own()
         if name == "submodules":
             modules.extend(things)
+        if name in ("submodules", "specials", "clock_domains"):
             return
         statements.extend((name, s) for s in things)
-        if things and name not in ["comb", *Module.mentioned]:
-            Module.mentioned.append(name)
+        if things and name != "comb":
+            mention(name)
 
     def statements(self):
         statements, modules = self.own()
@@ -413,13 +512,16 @@ def log2_int(n):
 
 NAMES = {
     x.__name__: x
-    for x in (Signal, Constant, Cat, Replicate, Mux, Array, If, Case, Module, LiteXModule, AutoCSR, bits_for, log2_int)
+    for x in (
+        Signal, Constant, Cat, Replicate, Mux, Array, If, Case, FSM, NextState, NextValue, ClockDomain, MultiReg,
+        Module, LiteXModule, AutoCSR, bits_for, log2_int,
+    )
 } | {"C": Constant}
 
 
 def top_of(text):
     """The module of the last class of a description."""
-    Signal.all, Module.mentioned = [], []
+    Signal.all, Module.mentioned, Module.declared, Module.crossings = [], [], {}, []
     lines = ["" if line.startswith(("from ", "import ")) else line for line in text.split("\n")]
     names = dict(NAMES)
     exec("\n".join(lines), names)
@@ -433,8 +535,9 @@ class Run:
     def __init__(self, text):
         self.top = top_of(text)
         self.ios = getattr(self.top, "ios", [])
-        self.statements = self.top.statements()
+        self.statements = Module.crossings + self.top.statements()
         self.domains = Module.mentioned
+        self.resets = [d for d in self.domains if Module.declared.get(d, True)]
         self.driver = {x: name for name, s in self.statements for x in s.driven()}
         self.inputs = {x: None for x in self.ios if x not in self.driver}
         self.values = {x: 0 if x in self.inputs else x.reset for x in Signal.all}

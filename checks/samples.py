@@ -1,5 +1,6 @@
 """Random descriptions of lawful circuits, for checks/descriptions: expressions and statements of each form, over signals
-of few and of many bits, in `comb` and in two clock domains. All signals are ports, so that all are compared.
+of few and of many bits, in `comb` and in two clock domains, declared or not, with values that cross into them. All
+signals are ports but for the registers of crossings and the numbers of states, so that all of these are compared.
 """
 import random
 
@@ -13,8 +14,8 @@ MOST = 127
 class Sample:
     """One description: its signals, and texts of expressions that are known to have a lawful shape."""
 
-    def __init__(self, seed):
-        self.chance = random.Random(seed)
+    def __init__(self, seed, has_machine=False):
+        self.chance, self.has_machine = random.Random(seed), has_machine
         self.shapes = {}
         self.signals = {}
 
@@ -108,43 +109,100 @@ class Sample:
         e = self.value(text)
         return text if e is not None and fhdl.target_bits(e) <= MOST else f"self.{name}"
 
-    def body(self, own, names, depth):
-        return ", ".join(self.statement(own, names, depth) for _ in range(self.chance.randint(1, 2)))
+    def body(self, leaf, names, depth):
+        return ", ".join(self.statement(leaf, names, depth) for _ in range(self.chance.randint(1, 2)))
 
-    def statement(self, own, names, depth):
+    def assignment(self, own, names):
+        return f"{self.target(own, names)}.eq({self.expr(names, 2)})"
+
+    def block(self, own, names):
+        return self.statement(lambda: self.assignment(own, names), names, 3)
+
+    def statement(self, leaf, names, depth):
+        """A statement whose innermost ones are leaves."""
         kind = self.chance.randrange(6) if depth else 5
         if kind < 2:
-            text = f"If({self.expr(names, 1)}, {self.body(own, names, depth - 1)})"
+            text = f"If({self.expr(names, 1)}, {self.body(leaf, names, depth - 1)})"
             for _ in range(self.chance.randrange(3)):
-                text += f".Elif({self.expr(names, 1)}, {self.body(own, names, depth - 1)})"
+                text += f".Elif({self.expr(names, 1)}, {self.body(leaf, names, depth - 1)})"
             if self.chance.random() < 0.6:
-                text += f".Else({self.body(own, names, depth - 1)})"
+                text += f".Else({self.body(leaf, names, depth - 1)})"
             return text
         if kind == 2:
             keys = self.chance.sample(range(-3, 9), self.chance.randint(0, 4))
-            arms = [f"{key}: [{self.body(own, names, depth - 1)}]" for key in keys]
+            arms = [f"{key}: [{self.body(leaf, names, depth - 1)}]" for key in keys]
             if self.chance.random() < 0.6:
-                arms.insert(self.chance.randint(0, len(arms)), f'"default": {self.statement(own, names, depth - 1)}')
+                arms.insert(self.chance.randint(0, len(arms)), f'"default": {self.statement(leaf, names, depth - 1)}')
             return f"Case({self.expr(names, 1)}, {{{', '.join(arms)}}})"
-        return f"{self.target(own, names)}.eq({self.expr(names, 2)})"
+        return leaf()
+
+    # ---- domains
+
+    def declaration(self, domain):
+        """A declaration of a domain, which may have no reset, by one of the ways to bind it."""
+        left = self.chance.choice([f"self.cd_{domain}", f"self.{domain}", f"self.clock_domains.{domain}", f"self.clock_domains.cd_{domain}"])
+        return f"{left} = ClockDomain({self.chance.choice(['', 'reset_less=True', '0', '1'])})"
+
+    def crossing(self, name, names):
+        """A value that goes into a domain, and then to the signal of this name."""
+        source = self.expr(names, 2) if self.chance.random() < 0.9 else self.integer()
+        e = self.value(source)
+        if e.bits > 64:
+            source = f"({source})[:{self.chance.randint(1, 64)}]"
+        rest = self.chance.choice(["", ', "fast"', ', n=1, odomain="fast"', ', "sys", 3', ", n=1"])
+        add = self.chance.choice(["", "self.specials += ", f"self.specials.{name}_crossing = ", f"self.{name}_crossing = "])
+        return f"{add}MultiReg({source}, self.{name}{rest})"
+
+    # ---- state machines
+
+    def machine(self, own, held, names):
+        """A machine whose states assign `own` at every moment and `held` at clock edges."""
+        states = [f"S{k}" for k in range(self.chance.randint(1, 5))]
+        start = self.chance.choice(["", f'"{self.chance.choice(states)}"'])
+
+        def leaf():
+            kind = self.chance.randrange(3)
+            if kind == 0:
+                return self.assignment(own, names)
+            if kind == 1:
+                return f"NextValue({self.target(held, names)}, {self.expr(names, 2)})"
+            return f'NextState("{self.chance.choice(states)}")'
+
+        yield f"self.submodules.fsm = FSM({start})"
+        for state in states + self.chance.sample(states, self.chance.randrange(2)):
+            yield f'self.fsm.act("{state}", {self.body(leaf, names, 3)})'
+
+    def asking(self, asked):
+        """Signals that tell of some states whether they are ongoing."""
+        for k, name in enumerate(asked):
+            self.signals[name] = fhdl.Signal()
+            yield f'self.{name} = self.fsm.ongoing("S{k}")'
 
     def text(self):
         lines = []
         inputs = [f"i{k}" for k in range(self.chance.randint(2, 4))]
         held = {"sys": [f"r{k}" for k in range(self.chance.randint(0, 3))], "fast": [f"f{k}" for k in range(self.chance.randint(0, 2))]}
         groups = [[f"c{k}_{j}" for j in range(self.chance.randint(1, 2))] for k in range(self.chance.randint(1, 3))]
-        everything = inputs + held["sys"] + held["fast"] + [name for group in groups for name in group]
+        crossed = [f"x{k}" for k in range(self.chance.randint(0, 2))]
+        own, kept = (["m0", "m1"], ["v0", "v1"]) if self.has_machine else ([], [])
+        everything = inputs + held["sys"] + held["fast"] + crossed + own + kept + [name for group in groups for name in group]
         lines += [self.signal(name) for name in everything]
+        known = inputs + held["sys"] + held["fast"] + crossed + kept
+        if self.has_machine:
+            machine = list(self.asking(["a0"]))
+            machine = list(self.machine(own, kept, known + ["a0"])) + machine
+            lines, everything, known = lines + machine[:1] + machine[-1:] + machine[1:-1], everything + ["a0"], known + own + ["a0"]
         lines.append(f"self.ios = [{', '.join(f'self.{name}' for name in everything)}]")
-        known = inputs + held["sys"] + held["fast"]
         for group in groups:
-            lines += [f"self.comb += {self.statement(group, known, 3)}" for _ in range(self.chance.randint(1, 3))]
+            lines += [f"self.comb += {self.block(group, known)}" for _ in range(self.chance.randint(1, 3))]
             known = known + group
         for domain, own in held.items():
             part = "sync" if domain == "sys" else f"sync.{domain}"
-            lines += [f"self.{part} += {self.statement(own, everything, 3)}" for _ in range(self.chance.randint(1, 3)) if own]
+            lines += [f"self.{part} += {self.block(own, everything)}" for _ in range(self.chance.randint(1, 3)) if own]
+        for line in [self.crossing(name, everything) for name in crossed] + [self.declaration(d) for d in held if self.chance.random() < 0.4]:
+            lines.insert(self.chance.randint(len(everything) + 1, len(lines)), line)
         return "class R(Module):\n    def __init__(self):\n" + "".join(f"        {line}\n" for line in lines)
 
 
-def sample(seed):
-    return Sample(seed).text()
+def sample(seed, has_machine=False):
+    return Sample(seed, has_machine).text()

@@ -1,3 +1,3 @@
 class A(Module):
     def __init__(self):
-        self.submodules.fsm = FSM()
+        self.specials += FSM()

@@ -1,0 +1,4 @@
+class A(Module):
+    def __init__(self):
+        self.submodules.f = FSM()
+        self.f.act(name="A")

@@ -1,0 +1,5 @@
+class A(Module):
+    def __init__(self):
+        self.submodules.f = FSM()
+        self.f.act("A")
+        self.a = self.f.state
