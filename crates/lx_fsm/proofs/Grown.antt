@@ -1,5 +1,5 @@
 -- Drafts that grow by nodes.
-use Rattle.std.proofs.Common.{◌≡◌, ℕ, zero, suc, ◌<◌, ◌≤◌, List, [], ◌∷◌, true, length, length-append, refl, sym, ap, ◌∙◌, arith, nat_lt}
+use Rattle.std.proofs.Common.{◌≡◌, ℕ, zero, suc, ◌<◌, ◌≤◌, List, [], ◌∷◌, ◌++◌, true, length, length-append, refl, sym, ap, subst, ◌∙◌, arith, nat_lt}
 use Rattle.std.specs.Prelude.{Some, map, slice_get, slice_index_or, IsTrue}
 use Rattle.std.proofs.lemmas.Bool.{and_from, and_parts, lt-ltb, ltb-true}
 use Rattle.lx_circuit.specs.Statements as tree
@@ -8,7 +8,7 @@ use Rattle.lx_fhdl.specs.Below.{ExprId, StmtId, all_arms_below, all_branches_bel
 use Rattle.lx_fhdl.specs.Designs as design
 use Rattle.lx_circuit.specs.Circuit.{Made, nothing}
 use Rattle.lx_fhdl.specs.Designs.{block, circuit_of, made_of, shapes, term}
-use Rattle.lx_fhdl.specs.Drafts.{ExprPut}
+use Rattle.lx_fhdl.specs.Drafts.{DraftKeeps, ExprPut}
 use Rattle.lx_fhdl.specs.Drafts as drafts
 use Rattle.lx_fhdl.specs.Keeping.{BranchesStand}
 use Rattle.lx_fhdl.specs.Stmts.{arms_at, block_at, branches_at, node_target}
@@ -18,16 +18,24 @@ use Rattle.lx_fhdl.specs.declared.design.Signal.{Signal}
 use Rattle.lx_fhdl.specs.declared.exprs.Expr.{Expr}
 use Rattle.lx_fhdl.specs.declared.stmts.Arm.{Arm}
 use Rattle.lx_fhdl.specs.declared.stmts.Branch.{Branch}
+use Rattle.lx_fhdl.specs.declared.stmts.Stmt.{Stmt}
 use Rattle.lx_fhdl.specs.declared.stmts.Target.{Target}
 use Rattle.lx_fhdl.proofs.Drafts.{stays_same, stays_then}
 use Rattle.lx_fhdl.proofs.StmtTrees.{block_same}
+use Rattle.lx_fsm.proofs.Drives.{drivings_stay}
 use Rattle.lx_fsm.specs.Lowers.{AreAll, AreThere, Grows, HasTarget, HasTerm, TargetPut, TermPut}
 
 pub grows_same : (d : Design) → Grows d d
-grows_same d = record { signals = refl; memories = refl; stays = stays_same d }
+grows_same d = record { only = refl; signals = refl; memories = refl; stays = stays_same d; drivings = λ driver k l. refl }
 
 pub grows_then : {x y z : Design} → Grows x y → Grows y z → Grows x z
-grows_then {x} {y} {z} g h = record { signals = h.signals ∙ g.signals; memories = h.memories ∙ g.memories; stays = stays_then x y z g.stays h.stays }
+grows_then {x} {y} {z} g h = record {
+  only = h.only ∙ ap (λ (d : Design). record d { exprs = z.exprs; targets = z.targets; stmts = z.stmts }) g.only;
+  signals = h.signals ∙ g.signals;
+  memories = h.memories ∙ g.memories;
+  stays = stays_then x y z g.stays h.stays;
+  drivings = λ driver k l. h.drivings driver k (omega (arith, l, g.stays.stmts)) ∙ g.drivings driver k l;
+}
 
 pub same_shapes : {x y : Design} → Grows x y → (k : ℕ) → shapes y k ≡ shapes x k
 unfolding circuit_of
@@ -44,15 +52,24 @@ exprs_kept g h = record { long = h.long; each = λ k i at. term_kept g (h.each k
 
 -- ---- a node more
 
-pub term_put : (old new : Design) (x : Expr) (id : ℕ) → ExprPut old new x id → TermPut old new id (node_term (term old) x)
-term_put old new x id p = record {
-  grows = record { signals = ap (λ (d : Design). d.signals) p.is; memories = ap (λ (d : Design). d.memories) p.is; stays = p.stays };
+by_exprs : (old new : Design) (xs : List Expr) → new ≡ record old { exprs = xs } → new ≡ record old { exprs = new.exprs; targets = new.targets; stmts = new.stmts }
+by_exprs old new xs e = subst (λ (d : Design). d ≡ record old { exprs = d.exprs; targets = d.targets; stmts = d.stmts }) (sym e) refl
+
+by_targets : (old new : Design) (xs : List Target) → new ≡ record old { targets = xs } → new ≡ record old { exprs = new.exprs; targets = new.targets; stmts = new.stmts }
+by_targets old new xs e = subst (λ (d : Design). d ≡ record old { exprs = d.exprs; targets = d.targets; stmts = d.stmts }) (sym e) refl
+
+pub by_stmts : (old new : Design) (xs : List Stmt) → new ≡ record old { stmts = xs } → new ≡ record old { exprs = new.exprs; targets = new.targets; stmts = new.stmts }
+by_stmts old new xs e = subst (λ (d : Design). d ≡ record old { exprs = d.exprs; targets = d.targets; stmts = d.stmts }) (sym e) refl
+
+pub term_put : (old new : Design) (x : Expr) (id : ℕ) → DraftKeeps old → DraftKeeps new → ExprPut old new x id → TermPut old new id (node_term (term old) x)
+term_put old new x id a b p = record {
+  grows = record { only = by_exprs old new (old.exprs ++ x ∷ []) p.is; signals = ap (λ (d : Design). d.signals) p.is; memories = ap (λ (d : Design). d.memories) p.is; stays = p.stays; drivings = drivings_stay old new a b p.stays };
   has = record { there = omega (arith, p.place, ap (λ (d : Design). length d.exprs) p.is, length-append old.exprs (x ∷ [])); tree = p.tree };
 }
 
-pub target_put : (old new : Design) (x : Target) (id : ℕ) → drafts.TargetPut old new x id → TargetPut old new id (node_target (term old) (design.target old) x)
-target_put old new x id p = record {
-  grows = record { signals = ap (λ (d : Design). d.signals) p.is; memories = ap (λ (d : Design). d.memories) p.is; stays = p.stays };
+pub target_put : (old new : Design) (x : Target) (id : ℕ) → DraftKeeps old → DraftKeeps new → drafts.TargetPut old new x id → TargetPut old new id (node_target (term old) (design.target old) x)
+target_put old new x id a b p = record {
+  grows = record { only = by_targets old new (old.targets ++ x ∷ []) p.is; signals = ap (λ (d : Design). d.signals) p.is; memories = ap (λ (d : Design). d.memories) p.is; stays = p.stays; drivings = drivings_stay old new a b p.stays };
   has = record { there = omega (arith, p.place, ap (λ (d : Design). length d.targets) p.is, length-append old.targets (x ∷ [])); tree = p.tree };
 }
 

@@ -1,10 +1,9 @@
 -- What holds of each action of statements holds of each that is taken.
-use Rattle.std.proofs.Common.{ℕ, ℤ, Bool, true, false, List, [], ◌∷◌, ◌++◌, cond}
+use Rattle.std.proofs.Common.{ℤ, Bool, true, false, List, [], ◌∷◌, ◌++◌, cond}
 use Rattle.std.specs.Ordering.{int_eq}
 use Rattle.lx_circuit.specs.Places.{Values}
 use Rattle.lx_circuit.specs.Shapes.{Shapes}
 use Rattle.lx_circuit.specs.Values.{value_of, is_zero}
-use Rattle.lx_circuit.specs.Statements as tree
 use Rattle.lx_fhdl.specs.Keeping.{EachOf}
 use Rattle.lx_fsm.specs.Actions.{Action, Act, Do, If, Case, Branches, NoBranch, Branch, Arms, NoArm, Arm, Acts, Done, Then, all_taken, taken, taken_arm, taken_branch}
 

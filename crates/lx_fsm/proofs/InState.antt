@@ -9,7 +9,6 @@ use Rattle.lx_num.proofs.Ints.{modulo-small}
 use Rattle.lx_circuit.specs.Places.{Values, At}
 use Rattle.lx_circuit.specs.Shapes.{Shapes}
 use Rattle.lx_circuit.specs.Values.{flag, is_zero, value_of}
-use Rattle.lx_circuit.specs.Statements as tree
 use Rattle.lx_circuit.specs.Statements.{Block, Piece, after_pieces, is_target, laid_over, piece, pieces, taken_block}
 use Rattle.lx_circuit.proofs.Cases.{after_append, by_test}
 use Rattle.lx_circuit.proofs.Frames.{target_leaves}

@@ -7,7 +7,6 @@ use Rattle.std.proofs.lemmas.Option.{slice_get_within}
 use Rattle.lx_arena.proofs.Places.{get_front, get_last}
 use Rattle.lx_circuit.specs.declared.WidthFault.{WidthFault}
 use Rattle.lx_circuit.specs.Shapes.{binary_fault, fault_of, or_else, shape_of}
-use Rattle.lx_circuit.specs.Statements as tree
 use Rattle.lx_circuit.specs.Terms.{Binary, Constant, Signal, Term}
 use Rattle.lx_tables.specs.declared.operators.Op.TheVariants as op
 use Rattle.lx_fhdl.specs.Below.{ExprId}
@@ -114,10 +113,10 @@ some_done x y f state n m numbers h e = subst (λ (k : ℕ). NumbersPut x y (reg
 
 -- ---- a condition more
 
-pub cond_put : (x y : Design) (f : FsmDecl) (state constant : ExprId) (k id : ℕ) → HasTerm x state.place (Signal f.state.0) → HasTerm x constant.place (numeral (register x f) k)
+pub cond_put : (x y : Design) (f : FsmDecl) (state constant : ExprId) (k id : ℕ) → DraftKeeps x → DraftKeeps y → HasTerm x state.place (Signal f.state.0) → HasTerm x constant.place (numeral (register x f) k)
     → ExprPut x y (expr.Binary op.Eq state constant) id → TermPut x y id (is_in (register x f) k)
-cond_put x y f state constant k id h g p =
-    let q = term_put x y (expr.Binary op.Eq state constant) id p in
+cond_put x y f state constant k id before after h g p =
+    let q = term_put x y (expr.Binary op.Eq state constant) id before after p in
     record {
       grows = q.grows;
       has = record {
@@ -129,9 +128,9 @@ cond_put x y f state constant k id h g p =
 pub constant_kept : (x y : Design) (f : FsmDecl) (constant : ExprId) (k : ℕ) → TermPut x y constant.place (numeral (register x f) k) → HasTerm y constant.place (numeral (register y f) k)
 constant_kept x y f constant k p = subst (λ (r : Register). HasTerm y constant.place (numeral r k)) (sym (same_register f p.grows)) p.has
 
-pub number_put : (x y : Design) (f : FsmDecl) (a : Shape) (k id : ℕ) (z : ℤ) → a ≡ shapes x f.state.0 → z ≡ pos k → ExprPut x y (expr.Const z a.bits a.signed) id → TermPut x y id (numeral (register x f) k)
-number_put x y f a k id z same is p =
-    let q = term_put x y (expr.Const z a.bits a.signed) id p in
+pub number_put : (x y : Design) (f : FsmDecl) (a : Shape) (k id : ℕ) (z : ℤ) → DraftKeeps x → DraftKeeps y → a ≡ shapes x f.state.0 → z ≡ pos k → ExprPut x y (expr.Const z a.bits a.signed) id → TermPut x y id (numeral (register x f) k)
+number_put x y f a k id z before after same is p =
+    let q = term_put x y (expr.Const z a.bits a.signed) id before after p in
     record {
       grows = q.grows;
       has = record {

@@ -1,15 +1,17 @@
 -- Statements that are put, one after another.
-use Rattle.std.proofs.Common.{◌≡◌, ℕ, zero, suc, ◌+◌, ◌-◌, ◌<◌, ◌≤◌, true, List, [], ◌∷◌, ◌++◌, drop, get_or, length, length-append, refl, sym, ap, subst, ◌∙◌, add-one, arith, nat_lt, drop-cons}
-use Rattle.std.specs.Prelude.{IsTrue}
+use Rattle.std.proofs.Common.{◌≡◌, ℕ, zero, suc, ◌+◌, ◌<◌, ◌≤◌, true, List, [], ◌∷◌, ◌++◌, drop, get_or, length, length-append, refl, sym, ap, subst, ◌∙◌, append_assoc, add-one, arith, nat_lt, drop-cons}
+use Rattle.std.specs.Prelude.{IsTrue, Some, slice_get}
+use Rattle.std.proofs.lemmas.List.{append-nil}
 use Rattle.std.proofs.lemmas.Bool.{and_from, and_parts, lt-ltb}
 use Rattle.std.proofs.Math.Seq.{drop-nil}
+use Rattle.lx_arena.proofs.Places.{get_last}
 use Rattle.lx_circuit.specs.Statements as tree
 use Rattle.lx_circuit.specs.Terms.{Term}
-use Rattle.lx_fhdl.specs.Below.{StmtId, all_arms_below, all_branches_below, all_stmts_below}
+use Rattle.lx_fhdl.specs.Below.{StmtId, all_arms_below, all_branches_below, all_stmts_below, stmt_below}
 use Rattle.lx_fhdl.specs.Designs as design
 use Rattle.lx_fhdl.specs.Designs.{block, term}
-use Rattle.lx_fhdl.specs.Drafts.{StmtPut}
-use Rattle.lx_fhdl.specs.Keeping.{BranchesStand}
+use Rattle.lx_fhdl.specs.Drafts.{DraftKeeps, StmtPut}
+use Rattle.lx_fhdl.specs.Keeping.{BranchesStand, StmtStands}
 use Rattle.lx_fhdl.specs.Stmts.{arms_at, block_at, branches_at, node_stmt}
 use Rattle.lx_fhdl.specs.declared.design.Design.{Design}
 use Rattle.lx_fhdl.specs.declared.stmts.Arm.{Arm}
@@ -17,8 +19,10 @@ use Rattle.lx_fhdl.specs.declared.stmts.Branch.{Branch}
 use Rattle.lx_fhdl.specs.declared.stmts.Stmt.{Stmt}
 use Rattle.lx_lowering.specs.Flat.{append, one}
 use Rattle.lx_lowering.proofs.Appends.{append_all, append_done}
-use Rattle.lx_fsm.specs.Lowers.{AreThere, ArmsPut, BranchesPut, Grows, Put, StmtsPut}
-use Rattle.lx_fsm.proofs.Grown.{arms_kept, arms_wider, block_kept, branches_kept, branches_wider, conds_wider, grows_same, grows_then, stmts_wider}
+use Rattle.lx_fsm.specs.Lowers.{AreThere, ArmsPut, BranchesPut, Driven, Grows, Put, StmtsPut, node_more}
+use Rattle.lx_reads.specs.Drivings.{Driving, arm_drivings, branch_drivings, drivings_at, drivings_of}
+use Rattle.lx_fsm.proofs.Drives.{arms_both, arms_stay, branches_both, branches_stay, drivings_stay, last_drives, list_stays}
+use Rattle.lx_fsm.proofs.Grown.{arms_kept, arms_wider, block_kept, branches_kept, branches_wider, by_stmts, conds_wider, grows_same, grows_then, stmts_wider}
 
 -- the item at a place, and those after it
 pub next_item : {X : Type 0} (xs : List X) (k : ℕ) (d : X) → k < length xs → drop k xs ≡ get_or xs k d ∷ drop (k + 1) xs
@@ -41,13 +45,14 @@ block_last : (f : ℕ → tree.Stmt) (ids : List StmtId) (id : StmtId) → block
 block_last f [] id = refl
 block_last f (i ∷ is) id = ap (tree.Then (f i.place)) (block_last f is id)
 
-stmt_grows : (x y : Design) (node : Stmt) (id : ℕ) → StmtPut x y node id → Grows x y
-stmt_grows x y node id p = record { signals = ap (λ (d : Design). d.signals) p.is; memories = ap (λ (d : Design). d.memories) p.is; stays = p.stays }
+stmt_grows : (x y : Design) (node : Stmt) (id : ℕ) → DraftKeeps x → DraftKeeps y → StmtPut x y node id → Grows x y
+stmt_grows x y node id a b p = record { only = by_stmts x y (x.stmts ++ node ∷ []) p.is; signals = ap (λ (d : Design). d.signals) p.is; memories = ap (λ (d : Design). d.memories) p.is; stays = p.stays; drivings = drivings_stay x y a b p.stays }
 
-pub put_last : (x y : Design) (node : Stmt) (id : StmtId) (before after : List StmtId) → AreThere x before → StmtPut x y node id.place → after ≡ before ++ id ∷ []
-    → Put x y before after (one (node_stmt (term x) (design.target x) (design.stmt x) node))
-put_last x y node id before after h p e =
-    let g = stmt_grows x y node id.place p in
+pub put_last : (x y : Design) (node : Stmt) (id : StmtId) (before after : List StmtId) (n : ℕ) → DraftKeeps x → DraftKeeps y → StmtStands n (length x.targets) node → stmt_below node (length x.stmts) ≡ true
+    → AreThere x before → StmtPut x y node id.place → after ≡ before ++ id ∷ [] → Put x y before after (one (node_stmt (term x) (design.target x) (design.stmt x) node)) (node_more x node)
+put_last x y node id before after n a b stands below h p e =
+    let at : slice_get y.stmts id.place ≡ Some node = ap (λ (d : Design). slice_get d.stmts id.place) p.is ∙ ap (slice_get (x.stmts ++ node ∷ [])) p.place ∙ get_last x.stmts node in
+    let g = stmt_grows x y node id.place a b p in
     let more : length y.stmts ≡ length x.stmts + 1 = ap (λ (d : Design). length d.stmts) p.is ∙ length-append x.stmts (node ∷ []) in
     let there : all_stmts_below (length y.stmts) (before ++ id ∷ []) ≡ true = stmts_last (length y.stmts) before id (stmts_wider (length x.stmts) (length y.stmts) before g.stays.stmts (search h)) (omega (arith, p.place)) in
     record {
@@ -58,51 +63,60 @@ put_last x y node id before after h p e =
           ∙ block_last (design.stmt y) before id
           ∙ ap (λ (b : tree.Block). append b (one (design.stmt y id.place))) (block_kept before g h)
           ∙ ap (λ (s : tree.Stmt). append (block x before) (one s)) p.tree;
+      drives = last_drives x y node id before after n a b p at stands below h e;
     }
 
 -- ---- one after another
 
-pub put_none : (x : Design) (ids : List StmtId) → AreThere x ids → Put x x ids ids tree.Done
-put_none x ids h = record { grows = grows_same x; there = h; tree = sym (append_done (block x ids)) }
+pub put_none : (x : Design) (ids : List StmtId) → AreThere x ids → Put x x ids ids tree.Done (λ driver. [])
+put_none x ids h = record { grows = grows_same x; there = h; tree = sym (append_done (block x ids)); drives = λ driver. sym (append-nil (drivings_of x driver ids)) }
 
-pub put_is : {x y : Design} {a b : List StmtId} {p q : tree.Block} → p ≡ q → Put x y a b p → Put x y a b q
-put_is {x} {y} {a} {b} {p} {q} e h = record { grows = h.grows; there = h.there; tree = h.tree ∙ ap (append (block x a)) e }
+pub put_is : {x y : Design} {a b : List StmtId} {p q : tree.Block} {l : Driven} → p ≡ q → Put x y a b p l → Put x y a b q l
+put_is {x} {y} {a} {b} {p} {q} {l} e h = record { grows = h.grows; there = h.there; tree = h.tree ∙ ap (append (block x a)) e; drives = h.drives }
+
+pub put_drives : {x y : Design} {a b : List StmtId} {p : tree.Block} {l m : Driven} → ((driver : ℕ) → l driver ≡ m driver) → Put x y a b p l → Put x y a b p m
+put_drives {x} {y} {a} {b} {p} {l} {m} e h = record { grows = h.grows; there = h.there; tree = h.tree; drives = λ driver. h.drives driver ∙ ap (λ (u : List Driving). drivings_of x driver a ++ u) (e driver) }
 
 -- after a draft has grown
-pub put_after : {x y z : Design} {a b : List StmtId} {p : tree.Block} → Grows x y → AreThere x a → Put y z a b p → Put x z a b p
-put_after {x} {y} {z} {a} {b} {p} g h q = record { grows = grows_then g q.grows; there = q.there; tree = q.tree ∙ ap (λ (c : tree.Block). append c p) (block_kept a g h) }
+pub put_after : {x y z : Design} {a b : List StmtId} {p : tree.Block} {l : Driven} → Grows x y → AreThere x a → Put y z a b p l → Put x z a b p l
+put_after {x} {y} {z} {a} {b} {p} {l} g h q = record { grows = grows_then g q.grows; there = q.there; tree = q.tree ∙ ap (λ (c : tree.Block). append c p) (block_kept a g h); drives = λ driver. q.drives driver ∙ ap (λ (u : List Driving). u ++ l driver) (list_stays x y a g.drivings h driver) }
 
-pub put_then : {x y z : Design} {a b c : List StmtId} {p q : tree.Block} → Put x y a b p → Put y z b c q → Put x z a c (append p q)
-put_then {x} {y} {z} {a} {b} {c} {p} {q} h g = record {
+pub put_then : {x y z : Design} {a b c : List StmtId} {p q : tree.Block} {l m : Driven} → Put x y a b p l → Put y z b c q m → Put x z a c (append p q) (λ driver. l driver ++ m driver)
+put_then {x} {y} {z} {a} {b} {c} {p} {q} {l} {m} h g = record {
   grows = grows_then h.grows g.grows;
   there = g.there;
   tree = g.tree ∙ ap (λ (e : tree.Block). append e q) h.tree ∙ append_all (block x a) p q;
+  drives = λ driver. g.drives driver ∙ ap (λ (u : List Driving). u ++ m driver) (h.drives driver) ∙ append_assoc (drivings_of x driver a) (l driver) (m driver);
 }
 
 -- a list that starts empty
-pub put_all : {x y : Design} {a b : List StmtId} {p : tree.Block} → a ≡ [] → Put x y a b p → StmtsPut x y b p
-put_all {x} {y} {a} {b} {p} e h = record { grows = h.grows; are = record { there = h.there; tree = h.tree ∙ ap (λ (ids : List StmtId). append (block x ids) p) e } }
+pub put_all : {x y : Design} {a b : List StmtId} {p : tree.Block} {l : Driven} → a ≡ [] → Put x y a b p l → StmtsPut x y b p l
+put_all {x} {y} {a} {b} {p} {l} e h = record { grows = h.grows; are = record { there = h.there; tree = h.tree ∙ ap (λ (ids : List StmtId). append (block x ids) p) e }; drives = λ driver. h.drives driver ∙ ap (λ (ids : List StmtId). drivings_of x driver ids ++ l driver) e }
 
 -- ---- a part of a block
 
 -- of the whole the rest is still to be put
-pub record PutSome (x y : Design) (a b : List StmtId) (whole rest : tree.Block) : Type 0 where
+pub record PutSome (x y : Design) (a b : List StmtId) (whole rest : tree.Block) (l m : Driven) : Type 0 where
   pub grows : Grows x y
   pub there : AreThere y b
   pub tree : append (block y b) rest ≡ append (block x a) whole
+  pub drives : (driver : ℕ) → drivings_of y driver b ++ m driver ≡ drivings_of x driver a ++ l driver
 
-pub some_start : (x : Design) (a : List StmtId) (whole : tree.Block) → AreThere x a → PutSome x x a a whole whole
-some_start x a whole h = record { grows = grows_same x; there = h; tree = refl }
+pub some_start : (x : Design) (a : List StmtId) (whole : tree.Block) (l : Driven) → AreThere x a → PutSome x x a a whole whole l l
+some_start x a whole l h = record { grows = grows_same x; there = h; tree = refl; drives = λ driver. refl }
 
-pub some_more : {x y z : Design} {a b c : List StmtId} {whole rest more p : tree.Block} → PutSome x y a b whole rest → rest ≡ append p more → Put y z b c p → PutSome x z a c whole more
-some_more {x} {y} {z} {a} {b} {c} {whole} {rest} {more} {p} h e q = record {
+pub some_more : {x y z : Design} {a b c : List StmtId} {whole rest more p : tree.Block} {l m n k : Driven} → PutSome x y a b whole rest l m → rest ≡ append p more → Put y z b c p k → ((driver : ℕ) → m driver ≡ k driver ++ n driver) → PutSome x z a c whole more l n
+some_more {x} {y} {z} {a} {b} {c} {whole} {rest} {more} {p} {l} {m} {n} {k} h e q f = record {
   grows = grows_then h.grows q.grows;
   there = q.there;
   tree = ap (λ (l : tree.Block). append l more) q.tree ∙ append_all (block y b) p more ∙ ap (append (block y b)) (sym e) ∙ h.tree;
+  drives = λ driver.
+      ap (λ (u : List Driving). u ++ n driver) (q.drives driver) ∙ append_assoc (drivings_of y driver b) (k driver) (n driver)
+      ∙ ap (λ (u : List Driving). drivings_of y driver b ++ u) (sym (f driver)) ∙ h.drives driver;
 }
 
-pub some_done : {x y : Design} {a b : List StmtId} {whole rest : tree.Block} → PutSome x y a b whole rest → rest ≡ tree.Done → Put x y a b whole
-some_done {x} {y} {a} {b} {whole} {rest} h e = record { grows = h.grows; there = h.there; tree = sym (append_done (block y b)) ∙ ap (append (block y b)) (sym e) ∙ h.tree }
+pub some_done : {x y : Design} {a b : List StmtId} {whole rest : tree.Block} {l m : Driven} → PutSome x y a b whole rest l m → rest ≡ tree.Done → ((driver : ℕ) → m driver ≡ []) → Put x y a b whole l
+some_done {x} {y} {a} {b} {whole} {rest} {l} {m} h e f = record { grows = h.grows; there = h.there; tree = sym (append_done (block y b)) ∙ ap (append (block y b)) (sym e) ∙ h.tree; drives = λ driver. sym (append-nil (drivings_of y driver b)) ∙ ap (λ (u : List Driving). drivings_of y driver b ++ u) (sym (f driver)) ∙ h.drives driver }
 
 -- ---- branches
 
@@ -128,18 +142,19 @@ branches_last n (x ∷ xs) b h l =
     let p = and_parts (all_stmts_below n x.body) (all_branches_below n xs) h in
     and_from (all_stmts_below n x.body) (all_branches_below n (xs ++ b ∷ [])) p.0 (branches_last n xs b p.1 l)
 
-pub record BranchesSome (x y : Design) (list : List Branch) (whole rest : tree.Branches) : Type 0 where
+pub record BranchesSome (x y : Design) (list : List Branch) (whole rest : tree.Branches) (l m : Driven) : Type 0 where
   pub grows : Grows x y
   pub conds : BranchesStand (length y.exprs) list
   pub there : IsTrue (all_branches_below (length y.stmts) list)
   pub tree : join (branches_at (term y) (design.stmt y) list) rest ≡ whole
+  pub drives : (driver : ℕ) → branch_drivings (drivings_at y driver) list ++ m driver ≡ l driver
 
-pub branches_start : (x : Design) (whole : tree.Branches) → BranchesSome x x [] whole whole
-branches_start x whole = record { grows = grows_same x; conds = tt; there = refl; tree = refl }
+pub branches_start : (x : Design) (whole : tree.Branches) (l : Driven) → BranchesSome x x [] whole whole l l
+branches_start x whole l = record { grows = grows_same x; conds = tt; there = refl; tree = refl; drives = λ driver. refl }
 
-pub branches_more : {x y z : Design} {list : List Branch} {whole rest more : tree.Branches} {p : tree.Block} (b : Branch) (c : Term) → BranchesSome x y list whole rest → rest ≡ tree.Branch c p more
-    → StmtsPut y z b.body p → b.cond.place < length y.exprs → term y b.cond.place ≡ c → BranchesSome x z (list ++ b ∷ []) whole more
-branches_more {x} {y} {z} {list} {whole} {rest} {more} {p} b c h e q l t =
+pub branches_more : {x y z : Design} {list : List Branch} {whole rest more : tree.Branches} {p : tree.Block} {i m n k : Driven} (b : Branch) (c : Term) → BranchesSome x y list whole rest i m → rest ≡ tree.Branch c p more → ((driver : ℕ) → m driver ≡ k driver ++ n driver)
+    → StmtsPut y z b.body p k → b.cond.place < length y.exprs → term y b.cond.place ≡ c → BranchesSome x z (list ++ b ∷ []) whole more i n
+branches_more {x} {y} {z} {list} {whole} {rest} {more} {p} {i} {m} {n} {k} b c h e f q l t =
     let g = q.grows in
     record {
       grows = grows_then h.grows g;
@@ -152,10 +167,16 @@ branches_more {x} {y} {z} {list} {whole} {rest} {more} {p} b c h e q l t =
           ∙ ap (join (branches_at (term z) (design.stmt z) list)) (sym e)
           ∙ ap (λ (u : tree.Branches). join u rest) (branches_kept list g h.conds h.there)
           ∙ h.tree;
+      drives = λ driver.
+          ap (λ (u : List Driving). u ++ n driver) (branches_both (drivings_at z driver) list b ∙ ap (λ (u : List Driving). branch_drivings (drivings_at z driver) list ++ u) (q.drives driver))
+          ∙ append_assoc (branch_drivings (drivings_at z driver) list) (k driver) (n driver)
+          ∙ ap (λ (u : List Driving). u ++ (k driver ++ n driver)) (branches_stay y z list g.drivings (search h.there) driver)
+          ∙ ap (λ (u : List Driving). branch_drivings (drivings_at y driver) list ++ u) (sym (f driver)) ∙ h.drives driver;
     }
 
-pub branches_done : {x y : Design} {list : List Branch} {whole rest : tree.Branches} → BranchesSome x y list whole rest → rest ≡ tree.NoBranch → BranchesPut x y list whole
-branches_done {x} {y} {list} {whole} {rest} h e = record {
+pub branches_done : {x y : Design} {list : List Branch} {whole rest : tree.Branches} {l m : Driven} → BranchesSome x y list whole rest l m → rest ≡ tree.NoBranch → ((driver : ℕ) → m driver ≡ []) → BranchesPut x y list whole l
+branches_done {x} {y} {list} {whole} {rest} {l} {m} h e f = record {
+  drives = λ driver. sym (append-nil (branch_drivings (drivings_at y driver) list)) ∙ ap (λ (u : List Driving). branch_drivings (drivings_at y driver) list ++ u) (sym (f driver)) ∙ h.drives driver;
   grows = h.grows;
   conds = h.conds;
   there = h.there;
@@ -182,16 +203,17 @@ arms_last n (x ∷ xs) a h l =
     let p = and_parts (all_stmts_below n x.body) (all_arms_below n xs) h in
     and_from (all_stmts_below n x.body) (all_arms_below n (xs ++ a ∷ [])) p.0 (arms_last n xs a p.1 l)
 
-pub record ArmsSome (x y : Design) (list : List Arm) (whole rest : tree.Arms) : Type 0 where
+pub record ArmsSome (x y : Design) (list : List Arm) (whole rest : tree.Arms) (l m : Driven) : Type 0 where
   pub grows : Grows x y
   pub there : IsTrue (all_arms_below (length y.stmts) list)
   pub tree : join_arms (arms_at (design.stmt y) list) rest ≡ whole
+  pub drives : (driver : ℕ) → arm_drivings (drivings_at y driver) list ++ m driver ≡ l driver
 
-pub arms_start : (x : Design) (whole : tree.Arms) → ArmsSome x x [] whole whole
-arms_start x whole = record { grows = grows_same x; there = refl; tree = refl }
+pub arms_start : (x : Design) (whole : tree.Arms) (l : Driven) → ArmsSome x x [] whole whole l l
+arms_start x whole l = record { grows = grows_same x; there = refl; tree = refl; drives = λ driver. refl }
 
-pub arms_more : {x y z : Design} {list : List Arm} {whole rest more : tree.Arms} {p : tree.Block} (a : Arm) → ArmsSome x y list whole rest → rest ≡ tree.Arm a.key p more → StmtsPut y z a.body p → ArmsSome x z (list ++ a ∷ []) whole more
-arms_more {x} {y} {z} {list} {whole} {rest} {more} {p} a h e q =
+pub arms_more : {x y z : Design} {list : List Arm} {whole rest more : tree.Arms} {p : tree.Block} {i m n k : Driven} (a : Arm) → ArmsSome x y list whole rest i m → rest ≡ tree.Arm a.key p more → ((driver : ℕ) → m driver ≡ k driver ++ n driver) → StmtsPut y z a.body p k → ArmsSome x z (list ++ a ∷ []) whole more i n
+arms_more {x} {y} {z} {list} {whole} {rest} {more} {p} {i} {m} {n} {k} a h e f q =
     let g = q.grows in
     record {
       grows = grows_then h.grows g;
@@ -202,10 +224,16 @@ arms_more {x} {y} {z} {list} {whole} {rest} {more} {p} a h e q =
           ∙ ap (join_arms (arms_at (design.stmt z) list)) (sym e)
           ∙ ap (λ (u : tree.Arms). join_arms u rest) (arms_kept list g h.there)
           ∙ h.tree;
+      drives = λ driver.
+          ap (λ (u : List Driving). u ++ n driver) (arms_both (drivings_at z driver) list a ∙ ap (λ (u : List Driving). arm_drivings (drivings_at z driver) list ++ u) (q.drives driver))
+          ∙ append_assoc (arm_drivings (drivings_at z driver) list) (k driver) (n driver)
+          ∙ ap (λ (u : List Driving). u ++ (k driver ++ n driver)) (arms_stay y z list g.drivings (search h.there) driver)
+          ∙ ap (λ (u : List Driving). arm_drivings (drivings_at y driver) list ++ u) (sym (f driver)) ∙ h.drives driver;
     }
 
-pub arms_done : {x y : Design} {list : List Arm} {whole rest : tree.Arms} → ArmsSome x y list whole rest → rest ≡ tree.NoArm → ArmsPut x y list whole
-arms_done {x} {y} {list} {whole} {rest} h e = record {
+pub arms_done : {x y : Design} {list : List Arm} {whole rest : tree.Arms} {l m : Driven} → ArmsSome x y list whole rest l m → rest ≡ tree.NoArm → ((driver : ℕ) → m driver ≡ []) → ArmsPut x y list whole l
+arms_done {x} {y} {list} {whole} {rest} {l} {m} h e f = record {
+  drives = λ driver. sym (append-nil (arm_drivings (drivings_at y driver) list)) ∙ ap (λ (u : List Driving). arm_drivings (drivings_at y driver) list ++ u) (sym (f driver)) ∙ h.drives driver;
   grows = h.grows;
   there = h.there;
   tree = sym (join_no_arms (arms_at (design.stmt y) list)) ∙ ap (join_arms (arms_at (design.stmt y) list)) (sym e) ∙ h.tree;

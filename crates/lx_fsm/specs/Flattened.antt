@@ -1,5 +1,5 @@
 -- The design of a description in which the statements of all its FSMs stand: what an FSM stands for is part of the design.
-use Rattle.std.specs.Prelude.{◌≡◌, ℕ, zero, suc, ℤ, pos, Bool, true, false, List, [], ◌∷◌, ◌+◌, Option, Some, None, Result, Ok, Err, flat_map, map, nat_eq, option_map, if◌then◌else◌}
+use Rattle.std.specs.Prelude.{◌≡◌, ℕ, zero, suc, ℤ, pos, Bool, true, false, List, [], ◌∷◌, ◌++◌, ◌+◌, Option, Some, None, Result, Ok, Err, flat_map, map, nat_eq, option_map, if◌then◌else◌}
 use Rattle.lx_text.specs.declared.faults.Fault.{Fault}
 use Rattle.lx_text.specs.declared.faults.Refusal.{Refusal}
 use Rattle.lx_alloc.specs.Judged.{Refused}
@@ -19,7 +19,9 @@ use Rattle.lx_description.specs.declared.description.Description.{Description}
 use Rattle.lx_description.specs.declared.fsms.FsmDecl.{FsmDecl}
 use Rattle.lx_description.specs.declared.fsms.FsmPlace.{FsmPlace}
 use Rattle.lx_description.specs.declared.fsms.FsmStmt.{FsmStmt}
+use Rattle.lx_reads.specs.Drivings.{Driving, drivings, drivings_at, drivings_of}
 use Rattle.lx_lowering.specs.Flat.{append, one}
+use Rattle.lx_fsm.specs.Driven.{comb_driven, sync_driven}
 use Rattle.lx_fsm.specs.Decls.{fsm_of, names_of}
 use Rattle.lx_fsm.specs.Lists.{comb_list, sync_list}
 use Rattle.lx_fsm.specs.Machine.{faults, start_among}
@@ -80,6 +82,44 @@ part_of d m p = if nat_eq p.domain m then block d p.stmts else tree.Done
 abbrev pub flat_sync : Description → ℕ → tree.Block
 flat_sync d m = woven (sync_at d m) 0 (map (part_of d.design m) d.design.sync)
 
+-- ---- what they drive
+
+-- what the lists of those at the place k drive, in order of creation
+abbrev pub given_driven : (FsmDecl → Option ℕ) → (FsmDecl → List Driving) → ℕ → List FsmDecl → List Driving
+given_driven place list k [] = []
+given_driven place list k (f ∷ fs) = if is_at k (place f) then list f ++ given_driven place list k fs else given_driven place list k fs
+
+-- lists from number k on, each after what stands at its number; and what stands after the last
+abbrev pub woven_driven : (ℕ → List Driving) → ℕ → List (List Driving) → List Driving
+woven_driven at k [] = at k
+woven_driven at k (b ∷ bs) = at k ++ (b ++ woven_driven at (k + 1) bs)
+
+-- in comb, whose driver is 0
+abbrev pub flat_comb_driven : Description → List Driving
+flat_comb_driven d =
+    woven_driven (λ k. given_driven comb_place (λ f. comb_driven d.design d.fsm_stmts f 0) k d.fsms) 0
+    (map (λ (i : StmtId). drivings_at d.design 0 i.place) d.design.comb)
+
+-- what the lists of `sys` drive, and none of another domain
+abbrev pub sync_at_driven : Description → ℕ → ℕ → List Driving
+sync_at_driven d m k = if nat_eq (sys_number d.design.domains) m then given_driven sync_place (λ f. sync_driven d.design d.fsm_stmts f (m + 1)) k d.fsms else []
+
+-- what a part drives of the domain m
+abbrev pub part_driven : Design → ℕ → SyncPart → List Driving
+part_driven d m p = if nat_eq p.domain m then drivings_of d (m + 1) p.stmts else []
+
+-- in the domain m, whose driver is m + 1
+abbrev pub flat_sync_driven : Description → ℕ → List Driving
+flat_sync_driven d m = woven_driven (sync_at_driven d m) 0 (map (part_driven d.design m) d.design.sync)
+
+abbrev pub flat_domains_driven : Description → ℕ → List Domain → List Driving
+flat_domains_driven d k [] = []
+flat_domains_driven d k (x ∷ xs) = flat_sync_driven d k ++ flat_domains_driven d (k + 1) xs
+
+-- All that it drives: in comb, then in the domains in their order.
+abbrev pub flat_drivings : Description → List Driving
+flat_drivings d = flat_comb_driven d ++ flat_domains_driven d 0 d.design.domains
+
 -- ---- reset values
 
 -- the signal of number x has this reset value
@@ -103,6 +143,8 @@ pub record IsFlat (d : Description) (e : Design) : Type 0 where
   pub signals : e.signals ≡ with_starts d.fsms d.design.signals
   pub comb : block e e.comb ≡ flat_comb d
   pub sync : (m : ℕ) → block e (stmts_of m e.sync) ≡ flat_sync d m
+  -- what its statements drive, and on which lines
+  pub drivings : drivings e ≡ flat_drivings d
   pub domains : e.domains ≡ d.design.domains
   pub memories : e.memories ≡ d.design.memories
   pub ports : e.ports ≡ d.design.ports

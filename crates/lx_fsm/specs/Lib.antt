@@ -1,8 +1,12 @@
 pub mod Actions
 pub mod Decls
+pub mod Driven
 pub mod Flattened
+pub mod Laid
 pub mod Lists
 pub mod Lowers
 pub mod Machine
 pub mod Runs
+pub mod Standing
 pub mod Worked
+pub mod WorkedFlat

@@ -16,6 +16,7 @@ use Rattle.lx_fhdl.specs.Stmts.{arms_at, branches_at}
 use Rattle.lx_fhdl.specs.declared.design.Design.{Design}
 use Rattle.lx_fhdl.specs.declared.stmts.Arm.{Arm}
 use Rattle.lx_fhdl.specs.declared.stmts.Branch.{Branch}
+use Rattle.lx_fhdl.specs.declared.stmts.Stmt.{Stmt}
 use Rattle.lx_description.specs.Below.{FsmStmtId, all_fsm_below, fsm_below}
 use Rattle.lx_description.specs.Keeping.{FsmStmtStands}
 use Rattle.lx_description.specs.declared.fsms.Asked.{Asked}
@@ -24,9 +25,11 @@ use Rattle.lx_description.specs.declared.fsms.FsmBranch.{FsmBranch}
 use Rattle.lx_description.specs.declared.fsms.FsmDecl.{FsmDecl}
 use Rattle.lx_description.specs.declared.fsms.FsmStmt.{FsmStmt}
 use Rattle.lx_description.specs.declared.fsms.StateDecl.{StateDecl}
+use Rattle.lx_reads.specs.Drivings.{Driving, arm_drivings, branch_drivings, drivings_at, drivings_of, node_drivings}
 use Rattle.lx_lowering.specs.Flat.{append, one}
 use Rattle.lx_fsm.specs.Actions.{Action, named}
 use Rattle.lx_fsm.specs.Decls.{act, asked_names, fsm_of, names_of}
+use Rattle.lx_fsm.specs.Driven.{comb_driven, driven_at, sync_driven}
 use Rattle.lx_fsm.specs.Lists.{Register, comb_list, in_comb, in_sync, is_in, numeral, sync_list}
 use Rattle.lx_fsm.specs.Machine.{faults, start, unknown}
 use Rattle.lx_fsm.specs.declared.lowering.FsmLists.{FsmLists}
@@ -73,11 +76,14 @@ register d f = record { signal = f.state.0; shape = shapes d f.state.0; names = 
 
 -- ---- drafts that grow
 
--- by nodes: signals and memories are the same, and trees stay
+-- by nodes: nothing but the arenas is another, and trees stay
 pub record Grows (old new : Design) : Type 0 where
+  pub only : new ≡ record old { exprs = new.exprs; targets = new.targets; stmts = new.stmts }
   pub signals : new.signals ≡ old.signals
   pub memories : new.memories ≡ old.memories
   pub stays : Stays old new
+  -- what the statements that were there drive stays
+  pub drivings : (driver k : ℕ) → k < length old.stmts → drivings_at new driver k ≡ drivings_at old driver k
 
 -- an expression, and a target, that hangs at a place
 pub record HasTerm (d : Design) (id : ℕ) (t : Term) : Type 0 where
@@ -116,26 +122,34 @@ pub record StmtsAre (d : Design) (ids : List StmtId) (b : tree.Block) : Type 0 w
   pub there : IsTrue (all_stmts_below (length d.stmts) ids)
   pub tree : block d ids ≡ b
 
-pub record StmtsPut (old new : Design) (ids : List StmtId) (b : tree.Block) : Type 0 where
+-- what they drive is this, by the number of the driver
+abbrev pub Driven : Type 0
+Driven = ℕ → List Driving
+
+pub record StmtsPut (old new : Design) (ids : List StmtId) (b : tree.Block) (l : Driven) : Type 0 where
   pub grows : Grows old new
   pub are : StmtsAre new ids b
+  pub drives : (driver : ℕ) → drivings_of new driver ids ≡ l driver
 
-pub record BranchesPut (old new : Design) (bs : List Branch) (b : tree.Branches) : Type 0 where
+pub record BranchesPut (old new : Design) (bs : List Branch) (b : tree.Branches) (l : Driven) : Type 0 where
   pub grows : Grows old new
   pub conds : BranchesStand (length new.exprs) bs
   pub there : IsTrue (all_branches_below (length new.stmts) bs)
   pub tree : branches_at (term new) (design.stmt new) bs ≡ b
+  pub drives : (driver : ℕ) → branch_drivings (drivings_at new driver) bs ≡ l driver
 
-pub record ArmsPut (old new : Design) (arms : List Arm) (b : tree.Arms) : Type 0 where
+pub record ArmsPut (old new : Design) (arms : List Arm) (b : tree.Arms) (l : Driven) : Type 0 where
   pub grows : Grows old new
   pub there : IsTrue (all_arms_below (length new.stmts) arms)
   pub tree : arms_at (design.stmt new) arms ≡ b
+  pub drives : (driver : ℕ) → arm_drivings (drivings_at new driver) arms ≡ l driver
 
--- a list that had statements has a block more
-pub record Put (old new : Design) (before after : List StmtId) (b : tree.Block) : Type 0 where
+-- a list that had statements has a block more, which drives this
+pub record Put (old new : Design) (before after : List StmtId) (b : tree.Block) (l : Driven) : Type 0 where
   pub grows : Grows old new
   pub there : IsTrue (all_stmts_below (length new.stmts) after)
   pub tree : block new after ≡ append (block old before) b
+  pub drives : (driver : ℕ) → drivings_of new driver after ≡ drivings_of old driver before ++ l driver
 
 abbrev pub AreThere : Design → List StmtId → Type 0
 AreThere d ids = IsTrue (all_stmts_below (length d.stmts) ids)
@@ -155,6 +169,14 @@ pub record IsReady (r : Read) (d : Design) : Type 0 where
   pub some : 0 < length r.fsm.states
   pub state : HasTarget d r.state.place (tree.Whole r.fsm.state.0)
   pub numerals : AreAll d (numeral (register d r.fsm)) (length r.fsm.states) r.numerals
+
+-- what the statement at a place drives in one of the two lists
+abbrev pub reads_driven : Read → Design → Part → ℕ → ℕ → List Driving
+reads_driven r d p driver k = driven_at d r.fsm.state.0 p driver r.stmts k
+
+-- what a node drives, from what is there
+abbrev pub node_more : Design → Stmt → Driven
+node_more d x driver = node_drivings d driver (drivings_at d driver) x
 
 -- what an action becomes in each of the two lists
 abbrev pub becomes : Register → Part → Action → tree.Block
@@ -179,6 +201,9 @@ pub record IsListed (old new : Design) (xs : List FsmStmt) (f : FsmDecl) (lists 
   pub comb : StmtsAre new lists.comb (comb_list (shapes old) (fsm_of old xs f))
   pub sync : StmtsAre new lists.sync (sync_list (shapes old) (fsm_of old xs f))
   pub start : lists.start ≡ start (fsm_of old xs f)
+  -- what they drive, on which lines
+  pub comb_drivings : (driver : ℕ) → drivings_of new driver lists.comb ≡ comb_driven old xs f driver
+  pub sync_drivings : (driver : ℕ) → drivings_of new driver lists.sync ≡ sync_driven old xs f driver
 
 -- its first fault is told, and the draft is as it was
 abbrev pub Refuses : Design → Design → List FsmStmt → FsmDecl → Refusal → Type 0

@@ -1,7 +1,12 @@
 //! Laws of machines, and machines worked by hand.
 
 ghost use Rattle.std.specs.Prelude.{codes};
+ghost use Rattle.lx_description.specs.Keeping.{KeepsDescription};
+ghost use Rattle.lx_description.specs.declared.description.Description.{Description};
+ghost use Rattle.lx_fsm.specs.Flattened.{CanFlatten};
 ghost use Rattle.lx_fsm.specs.Runs.{HasFsm, OngoingLaw, RunLaw, StateLaw};
+ghost use Rattle.lx_fsm.specs.Standing.{StandLaw};
+ghost use Rattle.lx_fsm.specs.WorkedFlat.{AreLaid};
 ghost use Rattle.lx_fsm.specs.Worked.{AreWorked, to_and_fro, turning};
 
 /// Over every list of steps the register of an FSM follows the machine of its states.
@@ -27,4 +32,19 @@ pub fn instance_law()
 /// Machines of two states are those worked by hand.
 pub fn machines_are_worked()
     ensures { AreWorked }
+{}
+
+/// The statements of a description with an FSM are those worked by hand.
+pub fn descriptions_are_worked()
+    ensures { AreLaid }
+{}
+
+/// A description that keeps what descriptions keep can do without its FSMs.
+pub fn flattening_law()
+    ensures { (d : Description) → KeepsDescription d → CanFlatten d }
+{}
+
+/// Each FSM of a description stands in the circuit of its flat design, so that the laws of machines speak of it.
+pub fn stand_law()
+    ensures { StandLaw }
 {}

@@ -3,6 +3,8 @@
 #![tactic(auto)]
 
 mod checks;
+mod flattening;
+mod growing;
 pub mod laws;
 mod lowering;
 mod numbers;
@@ -10,4 +12,6 @@ mod source;
 mod states;
 
 pub use checks::check_fsm;
+pub use flattening::without_fsms;
+pub use growing::Growing;
 pub use lowering::{FsmLists, lower_fsm};

@@ -5,16 +5,19 @@ ghost use Rattle.lx_circuit.specs.Statements as tree;
 ghost use Rattle.lx_fhdl.specs.Keeping.{EachOf};
 ghost use Rattle.lx_description.specs.declared.fsms.Asked.{Asked};
 ghost use Rattle.lx_fsm.specs.Decls.{names_of, ongoing_of};
+ghost use Rattle.lx_reads.specs.Drivings.{driving};
+ghost use Rattle.lx_fsm.specs.Driven.{ongoing_driven};
 ghost use Rattle.lx_fsm.specs.Lists.{is_in, ongoing_list};
 ghost use Rattle.lx_fsm.specs.Lowers.{AreAll, AreThere, CanLower, IsListed, Lowers, Put, TargetPut, register};
 ghost use Rattle.lx_fsm.specs.Machine.{start_among};
 
 use crate::checks::{check_fsm, number_among};
+use crate::growing::Growing;
 use crate::numbers::{id_at, push_numbers};
 use crate::source::Source;
 use crate::states::{Part, put_assign, put_states};
 use lx_description::{Asked, FsmDecl, FsmStmts};
-use lx_fhdl::{Draft, ExprId, SigId, StmtId, Target, TargetId};
+use lx_fhdl::{ExprId, SigId, StmtId, Target, TargetId};
 use lx_text::{List, NoMemory, Refusal};
 use std::alloc::Global;
 
@@ -30,19 +33,20 @@ pub struct FsmLists {
 }
 
 // Adds a signal as a target.
-#[tactic(auto, using(crate::proofs::Numbering::can_whole, crate::proofs::Grown::target_put))]
-fn push_whole(draft: &mut Draft, x: SigId) -> Result<TargetId, NoMemory>
+#[tactic(auto, using(crate::proofs::Numbering::can_whole))]
+fn push_whole(draft: &mut Growing, x: SigId) -> Result<TargetId, NoMemory>
     requires { x.0 < length draft.old.signals }
     ensures { IfOk result (λ id. TargetPut draft.old draft.new id.place (tree.Whole x.0)) }
 {
     draft.keeps();
     let id = draft.push_target(Target::Whole(x))?;
+    draft.keeps();
     Ok(id)
 }
 
 // Adds what a signal is that is `ongoing` of a state.
 fn put_ongoing(
-    draft: &mut Draft,
+    draft: &mut Growing,
     fsm: &FsmDecl,
     conds: &[ExprId],
     asked: &Asked,
@@ -52,7 +56,7 @@ fn put_ongoing(
     requires some { 0 < length fsm.now.states }
     requires conds { AreAll draft.old (is_in (register draft.old fsm.now)) (length fsm.now.states) conds.now }
     requires asked { asked.now.signal.0 < length draft.old.signals }
-    ensures { OnOk result (Put draft.old draft.new out.old out.new (ongoing_list (register draft.old fsm.now) (ongoing_of asked.now ∷ []))) }
+    ensures { OnOk result (Put draft.old draft.new out.old out.new (ongoing_list (register draft.old fsm.now) (ongoing_of asked.now ∷ [])) (λ driver. driving driver fsm.now.line asked.now.signal.0 ∷ [])) }
 {
     let states = fsm.states.as_slice();
     let number = number_among(states, asked.name.as_bytes());
@@ -63,7 +67,7 @@ fn put_ongoing(
 
 // Adds all that are.
 fn put_all_ongoing(
-    draft: &mut Draft,
+    draft: &mut Growing,
     fsm: &FsmDecl,
     conds: &[ExprId],
     out: &mut List<StmtId>,
@@ -72,7 +76,7 @@ fn put_all_ongoing(
     requires some { 0 < length fsm.now.states }
     requires conds { AreAll draft.old (is_in (register draft.old fsm.now)) (length fsm.now.states) conds.now }
     requires asked { EachOf (λ (a : Asked). a.signal.0 < length draft.old.signals) fsm.now.asked }
-    ensures { OnOk result (Put draft.old draft.new out.old out.new (ongoing_list (register draft.old fsm.now) (map ongoing_of fsm.now.asked))) }
+    ensures { OnOk result (Put draft.old draft.new out.old out.new (ongoing_list (register draft.old fsm.now) (map ongoing_of fsm.now.asked)) (λ driver. ongoing_driven driver fsm.now.line fsm.now.asked)) }
 {
     let all = fsm.asked.as_slice();
     for asked in all {
@@ -82,7 +86,7 @@ fn put_all_ongoing(
 }
 
 // The number of the reset state.
-fn start_of(fsm: &FsmDecl) -> usize
+pub(crate) fn start_of(fsm: &FsmDecl) -> usize
     ensures { result ≡ start_among (names_of fsm.now.states) fsm.now.start }
 {
     match &fsm.start {
@@ -96,7 +100,7 @@ fn put_lists(
     alloc: Global,
     fsm: &FsmDecl,
     stmts: &FsmStmts,
-    into: &mut Draft,
+    into: &mut Growing,
 ) -> Result<FsmLists, NoMemory>
     requires can { CanLower into.old stmts.now fsm.now }
     requires some { 0 < length fsm.now.states }
@@ -126,7 +130,7 @@ pub fn lower_fsm(
     alloc: Global,
     fsm: &FsmDecl,
     stmts: &FsmStmts,
-    into: &mut Draft,
+    into: &mut Growing,
 ) -> Result<FsmLists, Refusal>
     requires { CanLower into.old stmts.now fsm.now }
     ensures { Lowers into.old into.new stmts.now fsm.now result }

@@ -6,8 +6,9 @@ ghost use Rattle.lx_fhdl.specs.Designs.{shapes};
 ghost use Rattle.lx_fsm.specs.Lists.{is_in, numeral};
 ghost use Rattle.lx_fsm.specs.Lowers.{HasTerm, NumbersPut, TermPut, register};
 
+use crate::growing::Growing;
 use lx_description::FsmDecl;
-use lx_fhdl::{Draft, Expr, ExprId};
+use lx_fhdl::{Expr, ExprId};
 use lx_num::Shape;
 use lx_tables::Op;
 use lx_text::{List, NoMemory};
@@ -29,7 +30,7 @@ pub(crate) fn id_at(ids: &[ExprId], number: usize) -> ExprId
 }
 
 // The shape of `state`.
-fn state_shape(draft: &Draft, fsm: &FsmDecl) -> Shape
+fn state_shape(draft: &Growing, fsm: &FsmDecl) -> Shape
     requires { fsm.now.state.0 < length draft.now.signals }
     ensures { result ≡ shapes draft.now fsm.now.state.0 }
 {
@@ -37,19 +38,20 @@ fn state_shape(draft: &Draft, fsm: &FsmDecl) -> Shape
 }
 
 // Adds `state`.
-#[tactic(auto, using(crate::proofs::Numbering::can_signal, crate::proofs::Grown::term_put))]
-fn push_state(draft: &mut Draft, fsm: &FsmDecl) -> Result<ExprId, NoMemory>
+#[tactic(auto, using(crate::proofs::Numbering::can_signal))]
+fn push_state(draft: &mut Growing, fsm: &FsmDecl) -> Result<ExprId, NoMemory>
     requires { fsm.now.state.0 < length draft.old.signals }
     ensures { IfOk result (λ id. TermPut draft.old draft.new id.place (Signal fsm.now.state.0)) }
 {
     draft.keeps();
     let id = draft.push_expr(Expr::Sig(fsm.state))?;
+    draft.keeps();
     Ok(id)
 }
 
 // Adds the number of a state.
 fn push_numeral(
-    draft: &mut Draft,
+    draft: &mut Growing,
     fsm: &FsmDecl,
     shape: Shape,
     number: usize,
@@ -64,13 +66,14 @@ fn push_numeral(
         signed: shape.signed,
     };
     let id = draft.push_expr(node)?;
+    draft.keeps();
     Ok(id)
 }
 
 // Adds the condition that `state` is a number.
 
 fn push_cond(
-    draft: &mut Draft,
+    draft: &mut Growing,
     fsm: &FsmDecl,
     state: ExprId,
     constant: ExprId,
@@ -89,13 +92,14 @@ fn push_cond(
         right: constant,
     };
     let id = draft.push_expr(node)?;
+    draft.keeps();
     Ok(id)
 }
 
 /// Adds the numbers of all states, and their conditions.
 pub(crate) fn push_numbers(
     alloc: Global,
-    draft: &mut Draft,
+    draft: &mut Growing,
     fsm: &FsmDecl,
 ) -> Result<Numbers, NoMemory>
     requires { fsm.now.state.0 < length draft.old.signals }

@@ -17,19 +17,19 @@ use Rattle.lx_fhdl.specs.declared.stmts.Stmt.{Stmt}
 use Rattle.lx_fhdl.specs.declared.stmts.Stmt.TheVariants as stmt
 use Rattle.lx_reads.specs.Drivings.{Driving, arm_drivings, branch_drivings, drivings_at, drivings_in, node_drivings, target_signals, targets_signals}
 
-in_same : (f g : ℕ → List Driving) (n : ℕ) (is : List StmtId) → Same f g n → all_stmts_below n is ≡ true → drivings_in f is ≡ drivings_in g is
+pub in_same : (f g : ℕ → List Driving) (n : ℕ) (is : List StmtId) → Same f g n → all_stmts_below n is ≡ true → drivings_in f is ≡ drivings_in g is
 in_same f g n [] h e = refl
 in_same f g n (i ∷ is) h e =
     let p = and_parts (nat_lt i.place n) (all_stmts_below n is) e in
     ap (λ (xs : List Driving). xs ++ drivings_in f is) (h i.place (ltb-true i.place n p.0)) ∙ ap (λ (xs : List Driving). g i.place ++ xs) (in_same f g n is h p.1)
 
-branch_same : (f g : ℕ → List Driving) (n : ℕ) (bs : List Branch) → Same f g n → all_branches_below n bs ≡ true → branch_drivings f bs ≡ branch_drivings g bs
+pub branch_same : (f g : ℕ → List Driving) (n : ℕ) (bs : List Branch) → Same f g n → all_branches_below n bs ≡ true → branch_drivings f bs ≡ branch_drivings g bs
 branch_same f g n [] h e = refl
 branch_same f g n (b ∷ bs) h e =
     let p = and_parts (all_stmts_below n b.body) (all_branches_below n bs) e in
     ap (λ (xs : List Driving). xs ++ branch_drivings f bs) (in_same f g n b.body h p.0) ∙ ap (λ (xs : List Driving). drivings_in g b.body ++ xs) (branch_same f g n bs h p.1)
 
-arm_same : (f g : ℕ → List Driving) (n : ℕ) (arms : List Arm) → Same f g n → all_arms_below n arms ≡ true → arm_drivings f arms ≡ arm_drivings g arms
+pub arm_same : (f g : ℕ → List Driving) (n : ℕ) (arms : List Arm) → Same f g n → all_arms_below n arms ≡ true → arm_drivings f arms ≡ arm_drivings g arms
 arm_same f g n [] h e = refl
 arm_same f g n (a ∷ arms) h e =
     let p = and_parts (all_stmts_below n a.body) (all_arms_below n arms) e in
@@ -44,7 +44,7 @@ node_same d driver f g n (stmt.Case on arms rest line) h e =
     let p = and_parts (all_arms_below n arms) (all_stmts_below n rest) e in
     ap (λ (xs : List Driving). xs ++ drivings_in f rest) (arm_same f g n arms h p.0) ∙ ap (λ (xs : List Driving). arm_drivings g arms ++ xs) (in_same f g n rest h p.1)
 
-local : (d : Design) (driver : ℕ) → IsLocal stmt_below (node_drivings d driver)
+pub local : (d : Design) (driver : ℕ) → IsLocal stmt_below (node_drivings d driver)
 local d driver = record { same = λ f g n x h e. node_same d driver f g n x h e }
 
 pub drivings_at-is : (d : Design) (driver k : ℕ) (x : Stmt) → EachLower stmt_below d.stmts → slice_get d.stmts k ≡ Some x → drivings_at d driver k ≡ node_drivings d driver (drivings_at d driver) x

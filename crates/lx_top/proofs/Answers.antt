@@ -1,19 +1,24 @@
 -- From the same files a command goes on in one way.
-use Rattle.std.proofs.Common.{◌≡◌, ℕ, List, [], ◌∷◌, Result, Ok, Err, refl, subst, map, inl, inr}
+use Rattle.std.proofs.Common.{◌≡◌, ℕ, true, false, List, [], ◌∷◌, Result, Ok, Err, refl, sym, ◌∙◌, subst, map, inl, inr, ◌⊎◌}
 use Rattle.lx_text.specs.declared.faults.Fault.{Fault}
 use Rattle.lx_token.specs.declared.tokens.Token.{Token}
 use Rattle.lx_grammar.specs.Derives.{Tree, IsTreeOf}
 use Rattle.lx_grammar.specs.Signs.{item_of}
 use Rattle.lx_grammar.proofs.Guided.{one_tree}
 use Rattle.lx_syntax.specs.Classes.{classes}
+use Rattle.lx_description.specs.PlainModule.{is_plain}
 use Rattle.lx_description.specs.declared.description.Description.{Description}
 use Rattle.lx_elab.specs.Elaboration.{elaborated}
+use Rattle.lx_translate.proofs.Alike.{fault_too}
 use Rattle.lx_translate.proofs.Faultless.{no_fault_of}
 use Rattle.lx_command.specs.Commands.{Build, Map, Sim, Poke, Gen}
 use Rattle.lx_command.specs.Judging.{HasTree, HasTextFault}
+use Rattle.lx_command.specs.Lines.{not_built}
+use Rattle.lx_translate.specs.Translation.{HasFault}
 use Rattle.lx_top.specs.Meaning.{Says, IsBuilt, IsRefusedFor, Meaning, Built}
 use Rattle.lx_command.specs.Next.{Next, Then, SameNext}
 use Rattle.lx_top.specs.Table.{IsOneAnswerLaw}
+use Rattle.lx_top.proofs.Flat.{flat_alike, plain_alike}
 
 -- a text has one tree
 same_tree : (bytes : List ℕ) (t u : Tree) → HasTree bytes t → HasTree bytes u → t ≡ u
@@ -37,8 +42,11 @@ says_one bytes r s p q =
 
 -- a description that is built isn't refused
 not_refused : (d : Description) (f : Fault) → IsBuilt d → IsRefusedFor d f → ⊥
-not_refused d f b (inl r) = let plain = b.0 in let not_plain = r.0 in cc
-not_refused d f b (inr r) = no_fault_of d.design f b.1 r.1
+not_refused d f b r = by r.2
+  where
+    by : ((is_plain r.0 ≡ false) × (f ≡ not_built)) ⊎ ((is_plain r.0 ≡ true) × HasFault r.0.design f) → ⊥
+    by (inl x) = let bad : true ≡ false = sym b.2 ∙ plain_alike d b.0 r.0 b.1 r.1 ∙ x.0 in absurd cc
+    by (inr x) = no_fault_of b.0.design f b.3 (fault_too r.0.design b.0.design f (flat_alike d r.0 b.0 r.1 b.1) x.1)
 
 -- bytes that mean a description have no fault
 no_fault : (bytes : List ℕ) (x : Description) (f : Fault) → Meaning bytes (Ok x) → Meaning bytes (Err f) → ⊥

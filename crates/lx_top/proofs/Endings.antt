@@ -1,5 +1,5 @@
 -- A run's end, from what its parts did.
-use Rattle.std.proofs.Common.{◌≡◌, ℕ, ◌≤◌, List, [], ◌∷◌, Option, Some, Result, Ok, Err, refl, sym, ap, subst, length, codes, true, inl, inr, ◌⊎◌}
+use Rattle.std.proofs.Common.{◌≡◌, ℕ, ◌≤◌, List, [], ◌∷◌, Option, Some, Result, Ok, Err, refl, sym, ap, subst, ◌∙◌, length, codes, true, false, inl, inr, ◌⊎◌}
 use Rattle.lx_text.specs.declared.faults.Fault.{Fault}
 use Rattle.lx_text.specs.declared.faults.Refusal.{Refusal}
 use Rattle.lx_text.specs.declared.faults.Refusal.TheVariants as refusal
@@ -23,13 +23,15 @@ use Rattle.lx_pytree.specs.Reading.{tree_of}
 use Rattle.lx_syntax.specs.Classes.{classes}
 use Rattle.lx_description.specs.declared.description.Description.{Description}
 use Rattle.lx_description.specs.PlainModule.{is_plain}
+use Rattle.lx_fsm.specs.Flattened.{IsWithout}
 use Rattle.lx_describe.specs.Answers.{Answers}
 use Rattle.lx_elab.specs.Elaboration.{elaborated}
 use Rattle.lx_translate.specs.Translation.{Translates}
 use Rattle.lx_top.specs.Meaning.{Says, Meaning, Built}
 use Rattle.lx_top.specs.Table.{Step}
 use Rattle.lx_top.specs.Outcome.{Comes, EndsBy}
-use Rattle.lx_top.specs.Making.{Builds, Describes, DescribesFile, Makes}
+use Rattle.lx_top.specs.Making.{Builds, Describes, DescribesFile, Flattened, Makes}
+use Rattle.lx_top.proofs.Flat.{same_top}
 
 -- a build wants its description
 wants : (told : Option (List Pair)) (source : List ℕ) → Comes told (Build source) (Wants source max_bytes)
@@ -111,12 +113,19 @@ described bytes t d (Ok x) has a b = (d, (says_of bytes t (Ok d) has a, b.0), b.
 described bytes t d (Err (refusal.Fault f)) has a b = inr (inr (d, says_of bytes t (Ok d) has a, b))
 described bytes t d (Err refusal.NoMemory) has a b = tt
 
-pub built_from : (d : Description) (made : List ℕ) (t : Texts) → is_plain d ≡ true → Translates d.design (Ok made) → t.files ≡ build_files made → t.text ≡ summary_text d.top → Builds d (Ok t)
-built_from d made t plain is same said = ((plain, is.0), (t.files, (made, is.1, same), ap (Gives t.files) said))
+pub built_from : (d e : Description) (made : List ℕ) (t : Texts) → is_plain e ≡ true → IsWithout d e → Translates e.design (Ok made) → t.files ≡ build_files made → t.text ≡ summary_text e.top → Builds d (Ok t)
+built_from d e made t plain w is same said = ((e, w, plain, is.0), (t.files, (e, w, (made, is.1, same)), ap (Gives t.files) (said ∙ ap summary_text (same_top d e w))))
 
-pub not_translated : (d : Description) (r : Refusal) → is_plain d ≡ true → Translates d.design (Err r) → Builds d (Err r)
-not_translated d (refusal.Fault f) plain is = inr (plain, is)
-not_translated d refusal.NoMemory plain is = tt
+pub not_translated : (d e : Description) (r : Refusal) → is_plain e ≡ true → IsWithout d e → Translates e.design (Err r) → Builds d (Err r)
+not_translated d e (refusal.Fault f) plain w is = (e, w, inr (plain, is))
+not_translated d e refusal.NoMemory plain w is = tt
+
+pub not_plain : (d e : Description) → is_plain e ≡ false → IsWithout d e → Builds d (Err (refusal.Fault not_built))
+not_plain d e plain w = (e, w, inl (plain, refl))
+
+pub not_flat : (d : Description) (r : Refusal) → Flattened d (Err r) → Builds d (Err r)
+not_flat d (refusal.Fault f) h = absurd h
+not_flat d refusal.NoMemory h = tt
 
 -- a command that isn't built
 unbuilt : (told : Option (List Pair)) (c : Asked) (word : List ℕ) (before now : ℕ) (s : Stop) → Step c [] (Refuses word not_built) → IsNotBuilt word s → Makes c told before now (Err s)

@@ -1,10 +1,11 @@
 -- What making the texts of a command answers.
-use Rattle.std.specs.Prelude.{ℕ, List, Option, Result, Ok, Err, ◌⊎◌}
+use Rattle.std.specs.Prelude.{◌≡◌, ℕ, true, List, Option, Result, Ok, Err, ◌⊎◌}
 use Rattle.lx_outside.specs.declared.calls.Pair.{Pair}
 use Rattle.lx_outside.specs.Calls.{Rose}
 use Rattle.lx_text.specs.declared.faults.Refusal.{Refusal}
 use Rattle.lx_text.specs.declared.faults.Refusal.TheVariants as refusal
 use Rattle.lx_description.specs.declared.description.Description.{Description}
+use Rattle.lx_fsm.specs.Flattened.{IsWithout}
 use Rattle.lx_command.specs.declared.fetching.Stop.{Stop}
 use Rattle.lx_command.specs.declared.fetching.Stop.TheVariants as stop
 use Rattle.lx_command.specs.declared.texts.Texts.{Texts}
@@ -13,6 +14,12 @@ use Rattle.lx_command.specs.Next.{Wants, Refuses, Gives, Then}
 use Rattle.lx_command.specs.World.{LacksFile}
 use Rattle.lx_top.specs.Meaning.{Meaning, Built, IsBuilt, IsRefusedFor}
 use Rattle.lx_top.specs.Outcome.{Comes, IsAtFault}
+
+-- What taking the FSMs of a description for their statements answers.
+abbrev pub Flattened : Description → Result Description Refusal → Type 0
+Flattened d (Ok e) = IsWithout d e
+Flattened d (Err (refusal.Fault f)) = ⊥
+Flattened d (Err refusal.NoMemory) = Unit {0}
 
 -- What making the texts of a description answers.
 abbrev pub Builds : Description → Result Texts Refusal → Type 0

@@ -6,6 +6,7 @@ use Rattle.lx_grammar.specs.Derives.{Tree}
 use Rattle.lx_syntax.specs.Classes.{classes}
 use Rattle.lx_description.specs.declared.description.Description.{Description}
 use Rattle.lx_description.specs.PlainModule.{is_plain}
+use Rattle.lx_fsm.specs.Flattened.{IsWithout}
 use Rattle.lx_elab.specs.Elaboration.{elaborated}
 use Rattle.lx_translate.specs.Translation.{IsFaultless, HasFault, IsTextOf}
 use Rattle.lx_command.specs.Judging.{HasTree, HasTextFault}
@@ -18,22 +19,22 @@ pub record Says (bytes : List ℕ) (r : Result Description Fault) : Type 0 where
   pub has : HasTree bytes tree
   pub says : elaborated (classes bytes tree) ≡ r
 
--- a description that is built: of a plain module, whose circuit has no fault
+-- a description that is built: with the statements of its FSMs in its circuit it is a plain module without a fault
 abbrev pub IsBuilt : Description → Type 0
-IsBuilt d = (is_plain d ≡ true) × IsFaultless d.design
+IsBuilt d = (e : Description) × IsWithout d e × (is_plain e ≡ true) × IsFaultless e.design
 
--- one that isn't: more than a plain module, or a circuit with this fault
+-- one that isn't: it is more than a plain module then, or its circuit has this fault
 abbrev pub IsRefusedFor : Description → Fault → Type 0
-IsRefusedFor d f = ((is_plain d ≡ false) × (f ≡ not_built)) ⊎ ((is_plain d ≡ true) × HasFault d.design f)
+IsRefusedFor d f = (e : Description) × IsWithout d e × (((is_plain e ≡ false) × (f ≡ not_built)) ⊎ ((is_plain e ≡ true) × HasFault e.design f))
 
 -- the bytes mean this description, or this is their first fault: of the text, of what it describes, of its circuit
 abbrev pub Meaning : List ℕ → Result Description Fault → Type 0
 Meaning bytes (Ok d) = Says bytes (Ok d) × IsBuilt d
 Meaning bytes (Err f) = HasTextFault bytes f ⊎ (Says bytes (Err f) ⊎ ((d : Description) × Says bytes (Ok d) × IsRefusedFor d f))
 
--- the files of a description
+-- the files of a description: the text is that of its circuit with the statements of its FSMs
 abbrev pub Files : Description → List Pair → Type 0
-Files d files = (text : List ℕ) × IsTextOf d.design text × (files ≡ build_files text)
+Files d files = (e : Description) × IsWithout d e × ((text : List ℕ) × IsTextOf e.design text × (files ≡ build_files text))
 
 -- its files are stored, and its summary is said
 abbrev pub Built : Description → Next → Type 0

@@ -2,10 +2,10 @@
 
 ghost use Rattle.std.specs.Prelude.{◌≡◌, ℕ, List, []};
 ghost use Rattle.lx_text.specs.declared.faults.Fault.{Fault};
-ghost use Rattle.lx_fhdl.specs.Keeping.{Keeps};
+ghost use Rattle.lx_fsm.specs.Flattened.{CanFlatten, fsm_faults};
 ghost use Rattle.lx_command.specs.Commands.{Build, asked_of};
 ghost use Rattle.lx_command.specs.Next.{Refuses};
-ghost use Rattle.lx_top.specs.Making.{Builds, Describes, DescribesFile, Makes};
+ghost use Rattle.lx_top.specs.Making.{Builds, Describes, DescribesFile, Flattened, Makes};
 ghost use Rattle.lx_top.specs.Table.{Step};
 
 use lx_command::commands::Command;
@@ -14,6 +14,7 @@ use lx_command::judging::judge;
 use lx_command::texts::{Texts, files_of, summary_of};
 use lx_description::{Description, is_plain};
 use lx_elab::elaborate;
+use lx_fsm::without_fsms;
 use lx_outside::Source;
 use lx_text::{Kind, Refusal};
 use lx_translate::top_v;
@@ -62,26 +63,38 @@ fn describe_file<'a>(alloc: Global, name: &'a [u8], bytes: &[u8]) -> Result<Text
 }
 
 // The texts of a description's bytes; or the first fault of its text, of what it describes, or of its circuit.
-#[tactic(auto, using(crate::proofs::Endings::text_fault, crate::proofs::Endings::said_fault, crate::proofs::Endings::described))]
+#[tactic(auto, using(crate::proofs::Endings::text_fault, crate::proofs::Endings::said_fault, crate::proofs::Endings::described, crate::proofs::Flat::no_fsm_faults))]
 fn describe(alloc: Global, bytes: &[u8]) -> Result<Texts, Refusal>
     ensures { Describes bytes.now result }
 {
     let tree = judge(alloc, bytes)?;
     let description = elaborate(alloc, bytes, &tree)?;
-    texts_of(alloc, &description)
+    texts_of(alloc, description)
+}
+
+// The description with the statements of its FSMs in their places.
+#[tactic(auto, using(crate::proofs::Flat::flat_made))]
+fn flat_of(alloc: Global, description: Description) -> Result<Description, Refusal>
+    requires can { CanFlatten description }
+    requires faultless { fsm_faults description ≡ [] }
+    ensures { Flattened description result }
+{
+    without_fsms(alloc, description)
 }
 
 // The texts of a description; or the fault of its circuit, or that its parts are not built yet.
-#[tactic(auto, using(crate::proofs::Endings::built_from))]
-fn texts_of(alloc: Global, description: &Description) -> Result<Texts, Refusal>
-    requires { Keeps description.now.design }
-    ensures { Builds description.now result }
+#[tactic(auto, using(crate::proofs::Flat::flat_keeps, crate::proofs::Flat::no_ports, crate::proofs::Endings::built_from, crate::proofs::Endings::not_translated, crate::proofs::Endings::not_plain, crate::proofs::Endings::not_flat))]
+fn texts_of(alloc: Global, description: Description) -> Result<Texts, Refusal>
+    requires can { CanFlatten description }
+    requires faultless { fsm_faults description ≡ [] }
+    ensures { Builds description result }
 {
-    if !is_plain(description) {
+    let flat = flat_of(alloc, description)?;
+    if !is_plain(&flat) {
         return Err(Refusal::Fault(whole(Kind::NotYetBuilt)));
     }
-    let text = top_v(alloc, &description.design)?;
+    let text = top_v(alloc, &flat.design)?;
     let files = files_of(alloc, text)?;
-    let text = summary_of(alloc, description.top.as_bytes())?;
+    let text = summary_of(alloc, flat.top.as_bytes())?;
     Ok(Texts { files, text })
 }

@@ -5,7 +5,9 @@ use Rattle.lx_text.specs.declared.faults.Refusal.{Refusal}
 use Rattle.lx_text.specs.declared.faults.Refusal.TheVariants as refusal
 use Rattle.lx_vtext.specs.Tree.{Name, VModule}
 use Rattle.lx_vtext.specs.Printed.{module_text}
+use Rattle.lx_fhdl.specs.Designs.{circuit_of}
 use Rattle.lx_fhdl.specs.declared.design.Design.{Design}
+use Rattle.lx_reads.specs.Drivings.{drivings}
 use Rattle.lx_check.specs.Checked.{IsSound, HasCheckFault}
 use Rattle.lx_namer.specs.Names.{names_of}
 use Rattle.lx_write.specs.Writes.{Writes}
@@ -19,6 +21,16 @@ pub record IsFaultless (d : Design) : Type 0 where
 -- its first fault: of drivers and cycles, else of names
 abbrev pub HasFault : Design → Fault → Type 0
 HasFault d f = HasCheckFault d f ⊎ (IsSound d × (names_of d ≡ Err f))
+
+-- Two designs of one circuit, with the same signals, ports, domains and memories, and whose assignments have the same lines.
+pub record AreAlike (a b : Design) : Type 0 where
+  pub circuit : circuit_of a ≡ circuit_of b
+  pub signals : a.signals ≡ b.signals
+  pub ios : a.ios ≡ b.ios
+  pub domains : a.domains ≡ b.domains
+  pub memories : a.memories ≡ b.memories
+  pub ports : a.ports ≡ b.ports
+  pub drivings : drivings a ≡ drivings b
 
 -- The text is that of a module with the circuit's names, which gives what the circuit means: it has a text that is no other
 -- module's, a cycle meaning, and the circuit's ports; and after every list of steps, for all inputs that fit, each signal has

@@ -6,7 +6,7 @@ use Rattle.lx_fsm.proofs.Whole.{conds_stay, ongoing_done, ongoing_next, signals_
 use Rattle.lx_fsm.proofs.lowering.put_all_ongoing.Goals as goal
 
 pub loop-asked-init : goal.loop-asked-init
-loop-asked-init c = some_start c.args.draft.now c.args.out.now _ c.requires.out
+loop-asked-init c = some_start c.args.draft.now c.args.out.now _ _ c.requires.out
 
 pub put_ongoing-requires : goal.put_ongoing-requires
 put_ongoing-requires c =

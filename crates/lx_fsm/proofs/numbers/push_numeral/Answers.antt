@@ -8,4 +8,4 @@ pub push_expr-requires : goal.push_expr-requires
 push_expr-requires c = can_number _ c.args.fsm.now.state c.args.shape _ c.keeps.ensures c.requires
 
 pub returns : goal.returns
-returns c = number_put _ _ c.args.fsm.now c.args.shape c.args.number _ _ c.requires (to_z_pos w128 c.args.number (omega arith)) c.in_ok-id.ensures.ok
+returns c = number_put _ _ c.args.fsm.now c.args.shape c.args.number _ _ c.keeps.ensures c.keeps-2.ensures c.requires (to_z_pos w128 c.args.number (omega arith)) c.in_ok-id.ensures.ok

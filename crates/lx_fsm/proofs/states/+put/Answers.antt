@@ -1,10 +1,12 @@
-use Rattle.std.proofs.Common.{◌<◌, [], length, refl, ap, arith, rules, FitsSigned}
+use Rattle.std.proofs.Common.{◌<◌, List, [], length, refl, ap, arith, rules, FitsSigned}
 use Rattle.std.specs.Int.{w128}
 use Rattle.std.proofs.lemmas.Int.{to_z-of_z}
 use Rattle.std.proofs.lemmas.Result.{on_ok_weaker}
 use Rattle.lx_description.specs.Below.{FsmStmtId}
+use Rattle.lx_description.specs.declared.fsms.FsmArm.{FsmArm}
+use Rattle.lx_description.specs.declared.fsms.FsmBranch.{FsmBranch}
 use Rattle.lx_fsm.proofs.Grown.{there_kept}
-use Rattle.lx_fsm.proofs.Lowered.{acts_next, acts_of, arms_next_at, arms_of, becomes_later, becomes_now, branches_next_at, branches_of, case_can, case_empty, case_parts, case_there, if_can, if_empty, if_parts, if_there, node_put}
+use Rattle.lx_fsm.proofs.Lowered.{acts_drive, acts_next, acts_of, arms_drive, arms_next_at, arms_of, becomes_later, becomes_now, branches_drive, branches_next_at, branches_of, case_can, case_empty, case_parts, case_there, if_can, if_empty, if_parts, if_there, node_put}
 use Rattle.lx_fsm.proofs.Puts.{arms_done, arms_start, branches_done, branches_start, no_more, put_all, put_is, some_done, some_start}
 use Rattle.lx_fsm.proofs.Ready.{arm_body_at, body_at, case_below, id_below_at, if_below, node_stands, ready_kept}
 use Rattle.lx_fsm.proofs.states.+put.Goals as goal
@@ -126,7 +128,7 @@ put_case-returns t c =
 -- ---- lists
 
 pub lower_acts-loop-id-init : goal.lower_acts-loop-id-init
-lower_acts-loop-id-init t c = rw c.new-list.ensures (some_start c.args.draft.now [] _ refl)
+lower_acts-loop-id-init t c = rw c.new-list.ensures (some_start c.args.draft.now [] _ _ refl)
 
 pub lower_acts-put_act-requires : goal.lower_acts-put_act-requires
 lower_acts-put_act-requires t c =
@@ -140,10 +142,10 @@ lower_acts-loop-id-preserved t c = acts_next c.args.part c.args.ids.now c.loop-i
 
 pub lower_acts-returns : goal.lower_acts-returns
 lower_acts-returns t c =
-    put_all refl (some_done c.loop-id.invariant (ap (acts_of c.args.source.now c.args.part c.args.draft.now) (no_more c.args.ids.now c.loop-id.id-index (omega arith))))
+    put_all refl (some_done c.loop-id.invariant (ap (acts_of c.args.source.now c.args.part c.args.draft.now) (no_more c.args.ids.now c.loop-id.id-index (omega arith))) (λ driver. ap (λ (q : List FsmStmtId). acts_drive c.args.source.now c.args.part c.args.draft.now q driver) (no_more c.args.ids.now c.loop-id.id-index (omega arith))))
 
 pub lower_branches-loop-branch-init : goal.lower_branches-loop-branch-init
-lower_branches-loop-branch-init t c = rw c.new-list.ensures (branches_start c.args.draft.now _)
+lower_branches-loop-branch-init t c = rw c.new-list.ensures (branches_start c.args.draft.now _ _)
 
 pub lower_branches-lower_acts-requires : goal.lower_branches-lower_acts-requires
 lower_branches-lower_acts-requires t c =
@@ -167,9 +169,10 @@ lower_branches-loop-branch-preserved t c =
 pub lower_branches-returns : goal.lower_branches-returns
 lower_branches-returns t c =
     branches_done c.loop-branch.invariant (ap (branches_of c.args.source.now c.args.part c.args.draft.now) (no_more c.args.branches.now c.loop-branch.branch-index (omega arith)))
+    (λ driver. ap (λ (q : List FsmBranch). branches_drive c.args.source.now c.args.part c.args.draft.now q driver) (no_more c.args.branches.now c.loop-branch.branch-index (omega arith)))
 
 pub lower_arms-loop-arm-init : goal.lower_arms-loop-arm-init
-lower_arms-loop-arm-init t c = rw c.new-list.ensures (arms_start c.args.draft.now _)
+lower_arms-loop-arm-init t c = rw c.new-list.ensures (arms_start c.args.draft.now _ _)
 
 pub lower_arms-lower_acts-requires : goal.lower_arms-lower_acts-requires
 lower_arms-lower_acts-requires t c =
@@ -193,3 +196,4 @@ lower_arms-loop-arm-preserved t c =
 pub lower_arms-returns : goal.lower_arms-returns
 lower_arms-returns t c =
     arms_done c.loop-arm.invariant (ap (arms_of c.args.source.now c.args.part c.args.draft.now) (no_more c.args.arms.now c.loop-arm.arm-index (omega arith)))
+    (λ driver. ap (λ (q : List FsmArm). arms_drive c.args.source.now c.args.part c.args.draft.now q driver) (no_more c.args.arms.now c.loop-arm.arm-index (omega arith)))

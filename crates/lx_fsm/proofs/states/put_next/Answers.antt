@@ -14,8 +14,8 @@ put_assign-requires c = record {
 }
 
 pub returns-in-Comb : goal.returns-in-Comb
-returns-in-Comb c = next_none c.args.source.now c.args.out.now c.args.part _ c.in-Comb.is c.requires.out
+returns-in-Comb c = next_none c.args.source.now c.args.out.now c.args.part _ _ c.in-Comb.is c.requires.out
 
 pub returns-in-Sync : goal.returns-in-Sync
 returns-in-Sync c =
-    on_ok_weaker c.put_assign.result (λ p. next_here c.args.part _ _ _ c.in-Sync.is c.requires.ready refl (rw c.as_bytes.ensures at c.numeral-value.ensures) p) (rw c.state-state.ensures at c.put_assign.ensures)
+    on_ok_weaker c.put_assign.result (λ p. next_here c.args.part _ _ _ _ c.in-Sync.is c.requires.ready refl (rw c.as_bytes.ensures at c.numeral-value.ensures) p) (rw c.state-state.ensures at c.put_assign.ensures)

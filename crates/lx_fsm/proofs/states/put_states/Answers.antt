@@ -5,7 +5,7 @@ use Rattle.lx_fsm.proofs.Ready.{body_of_state, ready_kept}
 use Rattle.lx_fsm.proofs.states.put_states.Goals as goal
 
 pub loop-number-init : goal.loop-number-init
-loop-number-init c = some_start c.args.draft.now c.args.out.now _ c.requires.out
+loop-number-init c = some_start c.args.draft.now c.args.out.now _ _ c.requires.out
 
 pub id_at-cond-requires : goal.id_at-cond-requires
 id_at-cond-requires c = omega (arith, c.requires.conds.long, ap length c.states-states.ensures)
