@@ -10,6 +10,7 @@ use Rattle.lx_state.specs.Step.{Step, fault}
 use Rattle.lx_builtins.specs.Domains.{clock_domain_called, multireg_called}
 use Rattle.lx_builtins.specs.Exprs.{array_called, cat_called, constant_called, mux_called, replicate_called}
 use Rattle.lx_builtins.specs.Fsms.{act_called, fsm_called, next_state_called, next_value_called, ongoing_called}
+use Rattle.lx_builtins.specs.Memories.{get_port_called, memory_called}
 use Rattle.lx_builtins.specs.Numbers.{bits_for_called, int_called, log2_int_called, max_called, min_called, range_called, str_called}
 use Rattle.lx_builtins.specs.Objects.{case_called, elif_called, else_called, eq_called, getattr_called, if_called, init_called, setattr_called, super_called}
 use Rattle.lx_builtins.specs.Sequences.{enumerate_called, len_called, list_called, reversed_called, zip_called}
@@ -42,6 +43,7 @@ builtin_called line builtin.Mux args = mux_called line args
 builtin_called line builtin.Array args = array_called line args
 builtin_called line builtin.If args = if_called line args
 builtin_called line builtin.Case args = case_called line args
+builtin_called line builtin.Memory args = memory_called line args
 builtin_called line builtin.ClockDomain args = clock_domain_called line args
 builtin_called line builtin.MultiReg args = multireg_called line args
 builtin_called line builtin.Fsm args = fsm_called line args
@@ -61,3 +63,4 @@ method_called line (method.Else at) args = else_called line at args
 method_called line (method.Init at) args = init_called line at args
 method_called line (method.Act at) args = act_called line at args
 method_called line (method.Ongoing at) args = ongoing_called line at args
+method_called line (method.GetPort at) args = get_port_called line at args

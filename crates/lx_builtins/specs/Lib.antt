@@ -3,6 +3,7 @@ pub mod Calls
 pub mod Domains
 pub mod Exprs
 pub mod Fsms
+pub mod Memories
 pub mod Numbers
 pub mod Objects
 pub mod Sequences

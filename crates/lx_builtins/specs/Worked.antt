@@ -1,17 +1,21 @@
 -- Built-in names, worked by hand.
-use Rattle.std.specs.Prelude.{◌≡◌, ℕ, ℤ, Bool, pos, negsuc, ◌^◌, true, false, List, [], ◌∷◌, ◌++◌, length, map, codes, Option, Some, None, Result, Ok}
+use Rattle.std.specs.Prelude.{◌≡◌, ℕ, ℤ, Bool, pos, negsuc, ◌^◌, true, false, List, [], ◌∷◌, ◌++◌, length, map, codes, Option, Some, None, is_some, Result, Ok}
 use Rattle.lx_text.specs.declared.faults.Fault.{Fault}
 use Rattle.lx_text.specs.declared.faults.Kind.TheVariants as kind
 use Rattle.lx_num.specs.Ints.{shape}
 use Rattle.lx_num.specs.declared.Shape.{Shape}
 use Rattle.lx_text.specs.declared.faults.LimitKind.TheVariants as limit
 use Rattle.lx_fhdl.specs.Instance.{the_expr, the_signal, the_target}
+use Rattle.lx_fhdl.specs.declared.design.Memory.{Memory}
+use Rattle.lx_fhdl.specs.declared.design.PortMode.{PortMode}
+use Rattle.lx_fhdl.specs.declared.design.PortMode.TheVariants as mode
 use Rattle.lx_fhdl.specs.declared.design.Signal.{Signal}
 use Rattle.lx_fhdl.specs.declared.exprs.Expr.TheVariants as expr
 use Rattle.lx_state.specs.declared.machine.Binding.TheVariants as binding
 use Rattle.lx_state.specs.declared.machine.Leaves.TheVariants as leaves
 use Rattle.lx_state.specs.declared.machine.Machine.{Machine}
 use Rattle.lx_state.specs.declared.machine.Object.{Object}
+use Rattle.lx_state.specs.declared.machine.PortState.{PortState}
 use Rattle.lx_state.specs.declared.machine.What.{What}
 use Rattle.lx_state.specs.declared.machine.What.TheVariants as what
 use Rattle.lx_state.specs.declared.machine.Fsm.{Fsm}
@@ -27,7 +31,7 @@ use Rattle.lx_state.specs.declared.values.Value.TheVariants as value
 use Rattle.lx_state.specs.Step.{Outcome}
 use Rattle.lx_state.specs.Worked.{seen, spent, start}
 use Rattle.lx_objects.specs.Fsms.{new_fsm}
-use Rattle.lx_ops.specs.Worked.{a, at_nine, expr_at, int, some, top, value_of, values_at, w}
+use Rattle.lx_ops.specs.Worked.{a, an_object, at_nine, expr_at, int, items, some, top, value_of, values_at, w}
 use Rattle.lx_builtins.specs.Calls.{builtin_called, method_called}
 use Rattle.lx_builtins.specs.Numbers.{steps_from}
 use Rattle.lx_builtins.specs.declared.arguments.Arguments.{Arguments}
@@ -136,6 +140,95 @@ pub record AreStaged : Type 0 where
   pub next_value : seen forms (call builtin.NextValue (a ∷ w ∷ []) staged) ≡ Ok (form.NextValue (the_target 0) (the_expr 1) ∷ [])
   pub next_value_of_one : value_of (call builtin.NextValue (a ∷ []) staged) ≡ at_nine kind.WrongCount
 
+-- ---- memories
+
+abbrev pub a_memory : ℕ → List ℕ → Memory
+a_memory line init = record { path = []; width = 8; depth = 4; init = init; line = line }
+
+-- the texts "pix" and "1", the lists `[1, 258, -1]` and `["pix"]`, and a memory of 4 words of 8 bits
+abbrev pub stored : Machine
+stored = record some {
+  texts = codes "pix" ∷ codes "1" ∷ [];
+  lists = items (int 1 ∷ int 258 ∷ minus 0 ∷ []) ∷ items (value.Text 0 ∷ []) ∷ [];
+  objects = an_object (what.Memory 0) ∷ [];
+  memories = a_memory 1 [] ∷ [];
+  memory_objects = 0 ∷ [];
+  words = 4;
+}
+
+-- `Memory` with arguments that have names
+abbrev pub memory_with : List Value → List (List ℕ) → List Value → Outcome Value
+memory_with placed names named = builtin_called 9 builtin.Memory (given placed names named) stored
+
+abbrev pub memory_fault : List Value → Result Value Fault
+memory_fault placed = value_of (call builtin.Memory placed stored)
+
+abbrev pub memories : Machine → List Memory
+memories m = m.memories
+
+-- `get_port` of that memory
+abbrev pub port_with : List Value → List (List ℕ) → List Value → Outcome Value
+port_with placed names named = method_called 9 (method.GetPort 0) (given placed names named) stored
+
+abbrev pub port_fault : List (List ℕ) → List Value → Result Value Fault
+port_fault names named = value_of (port_with [] names named)
+
+-- whether it may write, and its mode, part and domain
+abbrev pub ports : Machine → List (Bool × PortMode × ℕ × Option ℕ)
+ports m = map (λ (p : PortState). (is_some p.writing, p.port.mode, p.port.part, p.port.domain)) m.ports
+
+abbrev pub mode_value : Builtin → Value
+mode_value b = value.Builtin b
+
+-- Of `Memory`.
+pub record AreStored : Type 0 where
+  pub by_place : seen memories (memory_with (int 8 ∷ int 4 ∷ value.List 0 ∷ []) [] []) ≡ Ok (a_memory 1 [] ∷ a_memory 9 (1 ∷ 2 ∷ 255 ∷ []) ∷ [])
+  pub by_name : seen memories (memory_with (int 8 ∷ []) (codes "init" ∷ codes "depth" ∷ []) (value.List 0 ∷ int 4 ∷ [])) ≡ Ok (a_memory 1 [] ∷ a_memory 9 (1 ∷ 2 ∷ 255 ∷ []) ∷ [])
+  pub without_contents : seen memories (memory_with (int 8 ∷ int 4 ∷ []) [] []) ≡ Ok (a_memory 1 [] ∷ a_memory 9 [] ∷ [])
+  pub without_depth : memory_fault (int 8 ∷ []) ≡ at_nine kind.WrongCount
+  pub no_width : memory_fault (int 0 ∷ int 4 ∷ []) ≡ at_nine kind.BadWidth
+  pub wide : memory_fault (int 65 ∷ int 4 ∷ []) ≡ at_nine kind.BadWidth
+  pub no_words : memory_fault (int 64 ∷ int 0 ∷ []) ≡ at_nine kind.BadWidth
+  pub below_zero : memory_fault (int 64 ∷ minus 0 ∷ []) ≡ at_nine kind.BadWidth
+  pub most_words : memory_fault (int 64 ∷ int 65536 ∷ []) ≡ Ok (value.Object 1)
+  pub many_words : memory_fault (int 64 ∷ int 65537 ∷ []) ≡ at_nine kind.BadWidth
+  pub tuple_of_contents : memory_fault (int 8 ∷ int 4 ∷ value.Tuple 0 ∷ []) ≡ at_nine kind.WrongKind
+  pub text_among_contents : memory_fault (int 8 ∷ int 4 ∷ value.List 1 ∷ []) ≡ at_nine kind.WrongKind
+  -- the argument that stands first has the first fault
+  pub first_placed : memory_fault (value.Text 0 ∷ int 0 ∷ []) ≡ at_nine kind.WrongKind
+  pub first_named : value_of (memory_with [] (codes "depth" ∷ codes "width" ∷ []) (int 0 ∷ value.Text 0 ∷ [])) ≡ at_nine kind.BadWidth
+  -- then more contents than words, and then the limits
+  pub as_many_contents : memory_fault (int 8 ∷ int 3 ∷ value.List 0 ∷ []) ≡ Ok (value.Object 1)
+  pub many_contents : memory_fault (int 8 ∷ int 2 ∷ value.List 0 ∷ []) ≡ at_nine kind.WrongCount
+  pub many_contents_first : value_of (call builtin.Memory (int 8 ∷ int 2 ∷ value.List 0 ∷ []) (record stored { words = 131072 })) ≡ at_nine kind.WrongCount
+  pub no_room : value_of (call builtin.Memory (int 8 ∷ int 3 ∷ value.List 0 ∷ []) (record stored { words = 131072 })) ≡ at_nine (kind.Limit limit.MemoryWords)
+
+-- Of `get_port`.
+pub record HavePorts : Type 0 where
+  pub plain : seen ports (port_with [] [] []) ≡ Ok ((false, mode.WriteFirst, 8, Some 0) ∷ [])
+  pub in_sys : seen domain_names (port_with [] [] []) ≡ Ok (codes "sys" ∷ [])
+  pub by_place : seen ports (port_with (int 1 ∷ int 0 ∷ int 4 ∷ mode_value builtin.ReadFirst ∷ value.Text 0 ∷ []) [] []) ≡ Ok ((true, mode.ReadFirst, 4, Some 0) ∷ [])
+  pub in_pix : seen domain_names (port_with [] (codes "clock_domain" ∷ []) (value.Text 0 ∷ [])) ≡ Ok (codes "pix" ∷ [])
+  pub by_name : seen ports (port_with [] (codes "mode" ∷ codes "write_capable" ∷ []) (mode_value builtin.NoChange ∷ int 1 ∷ [])) ≡ Ok ((true, mode.NoChange, 8, Some 0) ∷ [])
+  -- a port that reads at once has no other mode, and where it can't write no domain
+  pub at_once : seen ports (port_with [] (codes "async_read" ∷ codes "mode" ∷ []) (int 1 ∷ mode_value builtin.NoChange ∷ [])) ≡ Ok ((false, mode.Async, 8, None) ∷ [])
+  pub at_once_writing : seen ports (port_with (int 1 ∷ int 1 ∷ []) [] []) ≡ Ok ((true, mode.Async, 8, Some 0) ∷ [])
+  pub no_domain_of_this_name : port_fault (codes "async_read" ∷ codes "clock_domain" ∷ []) (int 1 ∷ value.Text 1 ∷ []) ≡ at_nine kind.BadKey
+  pub whole_word : seen ports (port_with [] (codes "we_granularity" ∷ []) (int 0 ∷ [])) ≡ Ok ((false, mode.WriteFirst, 8, Some 0) ∷ [])
+  pub bits : seen ports (port_with [] (codes "we_granularity" ∷ []) (int 1 ∷ [])) ≡ Ok ((false, mode.WriteFirst, 1, Some 0) ∷ [])
+  pub no_divisor : port_fault (codes "we_granularity" ∷ []) (int 3 ∷ []) ≡ at_nine kind.BadWidth
+  pub past_the_word : port_fault (codes "we_granularity" ∷ []) (int 16 ∷ []) ≡ at_nine kind.BadWidth
+  pub below_zero : port_fault (codes "we_granularity" ∷ []) (minus 0 ∷ []) ≡ at_nine kind.BadWidth
+  pub text_of_bits : port_fault (codes "we_granularity" ∷ []) (value.Text 0 ∷ []) ≡ at_nine kind.WrongKind
+  pub no_mode : port_fault (codes "mode" ∷ []) (int 0 ∷ []) ≡ at_nine kind.WrongKind
+  pub another_builtin : port_fault (codes "mode" ∷ []) (mode_value builtin.Memory ∷ []) ≡ at_nine kind.WrongKind
+  pub text_for_a_flag : port_fault (codes "async_read" ∷ []) (value.Text 0 ∷ []) ≡ at_nine kind.WrongKind
+  pub integer_as_domain : port_fault (codes "clock_domain" ∷ []) (int 0 ∷ []) ≡ at_nine kind.WrongKind
+  pub no_such_name : port_fault (codes "has_re" ∷ []) (int 0 ∷ []) ≡ at_nine kind.WrongCount
+  -- the argument that stands first has the first fault
+  pub bits_first : port_fault (codes "we_granularity" ∷ codes "mode" ∷ []) (int 3 ∷ int 0 ∷ []) ≡ at_nine kind.BadWidth
+  pub mode_first : port_fault (codes "mode" ∷ codes "we_granularity" ∷ []) (int 0 ∷ int 3 ∷ []) ≡ at_nine kind.WrongKind
+
 pub record AreCounted : Type 0 where
   pub down : steps_from 9 (negsuc 1) (pos 5) (pos 0) ≡ pos 5 ∷ pos 3 ∷ pos 1 ∷ []
   pub up : steps_from 9 (pos 1) (pos 0) (pos 2) ≡ pos 0 ∷ pos 1 ∷ []
@@ -177,5 +270,5 @@ pub record AreExpressed : Type 0 where
   pub array_of_nothing : value_of (call builtin.Array (value.List 0 ∷ []) some) ≡ at_nine kind.WrongCount
   pub bad_name : value_of (call builtin.SetAttr (value.Object 0 ∷ value.Text 0 ∷ a ∷ []) (record top { texts = named.texts })) ≡ at_nine kind.BadKey
   pub unbound : value_of (call builtin.GetAttr (value.Object 0 ∷ value.Text 1 ∷ []) top) ≡ at_nine (kind.UnknownName (codes "c"))
-  pub memory : value_of (call builtin.Memory (int 8 ∷ int 4 ∷ []) some) ≡ at_nine kind.NotYetBuilt
+  pub not_built : value_of (call builtin.CsrStorage (int 8 ∷ []) some) ≡ at_nine kind.NotYetBuilt
   pub mode : value_of (call builtin.ReadFirst [] some) ≡ at_nine kind.WrongKind

@@ -8,6 +8,7 @@ use crate::arguments::Arguments;
 use crate::domains::{clock_domain_called, multireg_called};
 use crate::exprs::{array_called, cat_called, constant_called, mux_called, replicate_called};
 use crate::fsms::{act_called, fsm_called, next_state_called, next_value_called, ongoing_called};
+use crate::memories::{get_port_called, memory_called};
 use crate::numbers::{
     bits_for_called, int_called, log2_int_called, max_called, min_called, range_called, str_called,
 };
@@ -58,6 +59,7 @@ pub fn builtin_called(
         Builtin::Array => array_called(machine, alloc, line, args),
         Builtin::If => if_called(machine, alloc, line, args),
         Builtin::Case => case_called(machine, alloc, line, &args),
+        Builtin::Memory => memory_called(machine, alloc, line, &args),
         Builtin::ClockDomain => clock_domain_called(machine, alloc, line, &args),
         Builtin::MultiReg => multireg_called(machine, alloc, line, &args),
         Builtin::Fsm => fsm_called(machine, alloc, line, &args),
@@ -89,5 +91,6 @@ pub fn method_called(
         Method::Init(at) => init_called(machine, line, at, &args),
         Method::Act(at) => act_called(machine, alloc, line, at, args),
         Method::Ongoing(at) => ongoing_called(machine, alloc, line, at, &args),
+        Method::GetPort(at) => get_port_called(machine, alloc, line, at, &args),
     }
 }

@@ -143,7 +143,7 @@ fn multireg_looked_at(
     }
 }
 
-fn name_there(names: &[Word], place: usize) -> &[u8]
+pub(crate) fn name_there(names: &[Word], place: usize) -> &[u8]
     ensures { result.now ≡ name_there names.now place }
 {
     match names.get(place) {
@@ -169,8 +169,8 @@ fn each_looked_at(
     Ok(())
 }
 
-// The domain of the registers, which is `sys` where none is given.
-fn domain_or(
+// The name of a domain, which is `sys` where none is given.
+pub(crate) fn domain_or(
     machine: &Machine,
     alloc: Global,
     line: u32,

@@ -6,6 +6,7 @@ pub mod calls;
 pub mod domains;
 pub mod exprs;
 pub mod fsms;
+pub mod memories;
 pub mod numbers;
 pub mod objects;
 pub mod sequences;

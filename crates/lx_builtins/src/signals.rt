@@ -21,7 +21,7 @@ use lx_value::{Param, PyOp};
 use std::alloc::Global;
 
 // A signal has 1 to 64 bits.
-fn is_size(bits: i128) -> bool
+pub(crate) fn is_size(bits: i128) -> bool
     ensures { result ≡ is_size bits }
 {
     if is_below_zero(bits) {
@@ -32,7 +32,7 @@ fn is_size(bits: i128) -> bool
 }
 
 #[tactic(auto, unfolding(crate::specs::Signals::sized))]
-fn sized(machine: &Machine, line: u32, bits: i128) -> Result<(), Refusal>
+pub(crate) fn sized(machine: &Machine, line: u32, bits: i128) -> Result<(), Refusal>
     ensures { Gives result machine.now (sized line bits machine.now) }
 {
     let _machine = machine;
@@ -116,7 +116,7 @@ pub fn name_looked_at(
 }
 
 #[tactic(auto, unfolding(crate::specs::Signals::integer_looked_at))]
-fn integer_looked_at(machine: &Machine, line: u32, value: Value) -> Result<(), Refusal>
+pub(crate) fn integer_looked_at(machine: &Machine, line: u32, value: Value) -> Result<(), Refusal>
     ensures { Gives result machine.now (integer_looked_at line value machine.now) }
 {
     machine.int_of(line, value)?;

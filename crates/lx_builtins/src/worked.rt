@@ -1,6 +1,6 @@
 //! Built-in names worked by hand.
 
-ghost use Rattle.lx_builtins.specs.Worked.{AreClocked, AreCounted, AreDeclared, AreExpressed, AreStaged};
+ghost use Rattle.lx_builtins.specs.Worked.{AreClocked, AreCounted, AreDeclared, AreExpressed, AreStaged, AreStored, HavePorts};
 
 /// What built-in names do, worked by hand.
 pub fn builtins_are_worked()
@@ -9,4 +9,6 @@ pub fn builtins_are_worked()
     ensures declared { AreDeclared }
     ensures expressed { AreExpressed }
     ensures staged { AreStaged }
+    ensures stored { AreStored }
+    ensures ports { HavePorts }
 {}

@@ -19,8 +19,10 @@ use Rattle.lx_state.specs.declared.machine.Machine.{Machine}
 use Rattle.lx_kept.specs.Given.{HasArenas}
 use Rattle.lx_paths.specs.Paths.{owner_path}
 use Rattle.lx_describe.specs.Apart.{expr_passes, is_state, owner_fsm, states_are_apart, target_passes}
-use Rattle.lx_describe.specs.Describing.{design_of}
+use Rattle.lx_describe.specs.Describing.{design_of, named_of}
+use Rattle.lx_describe.specs.Memories.{named_memories}
 use Rattle.lx_describe.specs.Signals.{named_signal, named_signals, with_bits, with_path}
+use Rattle.lx_describe.specs.declared.describing.Named.{Named}
 use Rattle.lx_describe.proofs.Unnamed.{SameElsewhere, arenas_kept}
 
 -- ---- signals
@@ -61,17 +63,17 @@ same_elsewhere m d e is x h =
     let from : 0 + x ≡ x = omega arith in
     ap (λ (ss : List Signal). shape_at ss x) is ∙ each_same m 0 x d.signals (ap (is_state m) from ∙ h)
 
--- the signals of a machine whose states are apart leave what the arenas keep
-pub finished : (m : Machine) (d e : Design) (signals : List Signal) (fragments : Fragments) (domains : List Domain) (ios : List SigId)
-    → states_are_apart m ≡ true → d ≡ m.shaped → DraftKeeps d → signals ≡ named_signals m 0 m.shaped.signals → e ≡ design_of d signals fragments domains ios → HasArenas e
-finished m d e signals fragments domains ios apart is keep named made =
+-- the signals and memories of a machine whose states are apart leave what the arenas keep
+pub finished : (m : Machine) (d e : Design) (named : Named) (fragments : Fragments) (domains : List Domain) (ios : List SigId)
+    → states_are_apart m ≡ true → d ≡ m.shaped → DraftKeeps d → named ≡ named_of m → e ≡ design_of d named fragments domains ios → HasArenas e
+finished m d e named fragments domains ios apart is keep named_is made =
     let passes = and_parts (list_all (expr_passes m) m.shaped.exprs) (list_all (target_passes m) m.shaped.targets) apart in
     let old : Design = m.shaped in
-    let whole : Design = design_of old (named_signals m 0 old.signals) fragments domains ios in
+    let whole : Design = design_of old (named_of m) fragments domains ios in
     let kept : DraftKeeps old = subst DraftKeeps is keep in
-    let arenas : ArenasKeep (shapes whole) (length old.signals) old.memories old.exprs old.targets old.stmts =
-    arenas_kept m (shapes old) (shapes whole) (length old.signals) old.memories old.exprs old.targets old.stmts
+    let arenas : ArenasKeep (shapes whole) (length old.signals) (named_memories m) old.exprs old.targets old.stmts =
+    arenas_kept m (shapes old) (shapes whole) (length old.signals) old.memories (named_memories m) old.exprs old.targets old.stmts
     (record { keep = kept.arenas; exprs = passes.0; targets = passes.1 }) (same_elsewhere m old whole refl) in
-    let has : HasArenas whole = subst (λ (n : ℕ). ArenasKeep (shapes whole) n old.memories old.exprs old.targets old.stmts) (sym (named_long m 0 old.signals)) arenas in
-    let same : e ≡ whole = made ∙ ap (λ (f : Design). design_of f signals fragments domains ios) is ∙ ap (λ (ss : List Signal). design_of old ss fragments domains ios) named in
+    let has : HasArenas whole = subst (λ (n : ℕ). ArenasKeep (shapes whole) n (named_memories m) old.exprs old.targets old.stmts) (sym (named_long m 0 old.signals)) arenas in
+    let same : e ≡ whole = made ∙ ap (λ (f : Design). design_of f named fragments domains ios) is ∙ ap (λ (x : Named). design_of old x fragments domains ios) named_is in
     subst HasArenas (sym same) has

@@ -1,5 +1,5 @@
--- Over signals of which some have other shapes the arenas keep what they kept, where no expression and no target names one of
--- those.
+-- Over signals of which some have other shapes, and over other memories, the arenas keep what they kept, where no expression
+-- and no target names one of those signals, and no expression reads a memory.
 use Rattle.std.proofs.Common.{◌≡◌, ℕ, zero, suc, pos, ◌<◌, Bool, true, false, not, ◌&&◌, ◌||◌, List, [], ◌∷◌, length, refl, sym, ap, subst, ◌∙◌, arith, inl, inr, nat_lt}
 use Rattle.std.specs.Prelude.{None, Some, slice_get}
 use Rattle.std.specs.List.{list_all}
@@ -16,7 +16,7 @@ use Rattle.lx_circuit.specs.Locality.{Alike, TermSame, target_mentions, targets_
 use Rattle.lx_circuit.proofs.Locality.{term_same}
 use Rattle.lx_circuit.proofs.BlockLocality.{TargetSame, target_alike}
 use Rattle.lx_fhdl.specs.Below.{ExprId, TargetId, expr_below, target_below, all_targets_below}
-use Rattle.lx_fhdl.specs.Keeping.{ArenasKeep, TargetStands}
+use Rattle.lx_fhdl.specs.Keeping.{ArenasKeep, NamesThere, TargetStands}
 use Rattle.lx_fhdl.specs.Nodes.{EachChild, EachPlace}
 use Rattle.lx_fhdl.specs.Stmts.{node_target, target_at, targets_at}
 use Rattle.lx_fhdl.specs.Trees.{node_term, term_at, terms_at}
@@ -73,12 +73,26 @@ node_names m t (Cat parts) a h x e = terms_name m t parts h x e
 node_names m t (Pick items index) a h x e = either (some_names (At x) (terms_at t items)) (names (At x) (t index.place)) (is_state m x ≡ false) (terms_name m t items h.0 x) (h.1 x) e
 node_names m t (Replicate of count) a h x e = h x e
 node_names m t (Slice of low high) a h x e = h x e
-node_names m t (Fetch memory width at) a h x e = h x e
+node_names m t (Fetch memory width at) a h x e = absurd (cc)
 
 names_at : (m : Machine) (xs : List Expr) → EachLower expr_below xs → list_all (expr_passes m) xs ≡ true → (k : ℕ) → k < length xs → NamesNone m (term_at xs k)
 names_at m xs low all = by_places (λ k. NamesNone m (term_at xs k)) xs (λ k x found below.
     subst (λ (t : Term). NamesNone m t) (sym (term_at-is xs low k x found))
     (node_names m (term_at xs) x (passes_at (expr_passes m) xs all k x found) (children_of (λ j. NamesNone m (term_at xs j)) xs low k x found below)))
+
+-- ---- what an expression names is there whichever the memories are
+
+named_apart : (m : Machine) (n : ℕ) (ms other : List Memory) (x : Expr) → expr_passes m x ≡ true → NamesThere n ms x → NamesThere n other x
+named_apart m n ms other (Const value bits signed) a h = h
+named_apart m n ms other (Sig y) a h = h
+named_apart m n ms other (Unary op of) a h = h
+named_apart m n ms other (Binary op left right) a h = h
+named_apart m n ms other (Mux cond then_ else_) a h = h
+named_apart m n ms other (Cat parts) a h = h
+named_apart m n ms other (Pick items index) a h = h
+named_apart m n ms other (Replicate of count) a h = h
+named_apart m n ms other (Slice of low high) a h = h
+named_apart m n ms other (Fetch memory width at) a h = absurd (cc)
 
 -- ---- no target mentions one
 
@@ -139,8 +153,8 @@ stands m s t n xs (target.Cat parts) same e a h = h
 stands m s t n xs (target.Pick items index) same e a h = (h.0, h.1, ap (λ (b : Shape). b.signed) (e index.place h.1) ∙ h.2)
 
 -- the arenas keep what they kept
-pub arenas_kept : (m : Machine) (s t : Shapes) (n : ℕ) (ms : List Memory) (xs : List Expr) (ts : List Target) (ss : List Stmt) → Passed m s n ms xs ts ss → SameElsewhere m s t → ArenasKeep t n ms xs ts ss
-arenas_kept m s t n ms xs ts ss passed same =
+pub arenas_kept : (m : Machine) (s t : Shapes) (n : ℕ) (ms other : List Memory) (xs : List Expr) (ts : List Target) (ss : List Stmt) → Passed m s n ms xs ts ss → SameElsewhere m s t → ArenasKeep t n other xs ts ss
+arenas_kept m s t n ms other xs ts ss passed same =
     let keep = passed.keep in
     let terms = terms_kept m s t n ms xs ts ss passed same in
     let sizes : SameShapes s t xs xs (length xs) = λ k l. (terms k l).shape in
@@ -151,7 +165,7 @@ arenas_kept m s t n ms xs ts ss passed same =
       shaped = λ k l. (terms k l).fault ∙ keep.shaped k l;
       operands = keep.operands;
       parts = keep.parts;
-      named = keep.named;
+      named = λ k x e. named_apart m n ms other x (passes_at (expr_passes m) xs passed.exprs k x e) (keep.named k x e);
       indices = indices_kept s t xs xs keep.exprs_lower sizes keep.indices;
       targets = λ k x e. stands m s t n xs x same sizes (passes_at (target_passes m) ts passed.targets k x e) (keep.targets k x e);
       target_bits = λ k l. omega (arith, (targets_kept m s t n ms xs ts ss passed same k l).bits, keep.target_bits k l);

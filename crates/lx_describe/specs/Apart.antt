@@ -1,4 +1,5 @@
--- The signals `state` of FSMs, whose bits are known once all states are: no expression and no target names one.
+-- The signals `state` of FSMs, whose bits are known once all states are: no expression and no target names one. No expression
+-- reads a memory by itself either: ports alone do.
 use Rattle.std.specs.Prelude.{ℕ, zero, suc, Bool, true, false, ◌+◌, ◌^◌, nat_le, not, ◌&&◌, if◌then◌else◌, is_some, List, length, slice_get, Option, Some, None}
 use Rattle.std.specs.List.{list_all}
 use Rattle.lx_text.specs.declared.faults.Kind.TheVariants as kind
@@ -39,10 +40,11 @@ owner_fsm m (Some x) = own_fsm x.part (object_fsm m (slice_get m.objects x.objec
 abbrev pub is_state : Machine → ℕ → Bool
 is_state m x = is_some (owner_fsm m (slice_get m.owners x))
 
--- ---- nothing names one
+-- ---- nothing names one, and ports alone read memories
 
 abbrev pub expr_passes : Machine → Expr → Bool
 expr_passes m (expr.Sig x) = not (is_state m x.0)
+expr_passes m (expr.Fetch memory width at) = false
 expr_passes m _ = true
 
 abbrev pub target_passes : Machine → Target → Bool

@@ -3,7 +3,6 @@ use Rattle.std.specs.Prelude.{ℕ, Bool, true, false, List, [], map, codes, slic
 use Rattle.lx_text.specs.declared.faults.Kind.TheVariants as kind
 use Rattle.lx_fhdl.specs.declared.design.Design.{Design}
 use Rattle.lx_fhdl.specs.declared.design.Domain.{Domain}
-use Rattle.lx_fhdl.specs.declared.design.Signal.{Signal}
 use Rattle.lx_fhdl.specs.declared.exprs.SigId.{SigId}
 use Rattle.lx_state.specs.declared.values.Value.{Value}
 use Rattle.lx_state.specs.declared.machine.Machine.{Machine}
@@ -18,9 +17,11 @@ use Rattle.lx_fragments.specs.Fragments.{fragments_of}
 use Rattle.lx_fragments.specs.declared.fragments.Fragments.{Fragments}
 use Rattle.lx_description.specs.declared.description.Description.{Description}
 use Rattle.lx_description.specs.Laws.{no_wishes}
+use Rattle.lx_describe.specs.declared.describing.Named.{Named}
 use Rattle.lx_describe.specs.declared.describing.Outline.{Outline}
 use Rattle.lx_describe.specs.Apart.{states_apart}
 use Rattle.lx_describe.specs.Fsms.{all_fsms, object_line}
+use Rattle.lx_describe.specs.Memories.{named_memories, ports_of}
 use Rattle.lx_describe.specs.Modules.{module_decls, module_text}
 use Rattle.lx_describe.specs.Order.{in_order}
 use Rattle.lx_describe.specs.Signals.{named_signals}
@@ -71,15 +72,27 @@ outline_of v = do
   fsms ← all_fsms top
   give (record { top = top; ios = ios; fragments = fragments; domains = domains; fsms = fsms })
 
-abbrev pub design_of : Design → List Signal → Fragments → List Domain → List SigId → Design
-design_of d signals fragments domains ios = record d { signals = signals; comb = fragments.comb; sync = fragments.sync; domains = domains; ports = []; ios = ios }
+-- the signals and memories with their paths, and the ports of the memories
+abbrev pub named_of : Machine → Named
+named_of m = record { signals = named_signals m 0 m.shaped.signals; memories = named_memories m; ports = ports_of m }
+
+abbrev pub design_of : Design → Named → Fragments → List Domain → List SigId → Design
+design_of d named fragments domains ios = record d {
+  signals = named.signals;
+  memories = named.memories;
+  ports = named.ports;
+  comb = fragments.comb;
+  sync = fragments.sync;
+  domains = domains;
+  ios = ios;
+}
 
 -- nothing but the circuit, its modules and its FSMs is built yet
 abbrev pub description_of : Machine → Outline → Description
 description_of m x = record {
   top = module_text m (slice_get m.modules x.top);
   soc = false;
-  design = design_of m.shaped (named_signals m 0 m.shaped.signals) x.fragments x.domains x.ios;
+  design = design_of m.shaped (named_of m) x.fragments x.domains x.ios;
   modules = module_decls m (in_order m x.top);
   slaves = [];
   wishes = no_wishes;

@@ -2,6 +2,7 @@ pub mod Answers
 pub mod Apart
 pub mod Describing
 pub mod Fsms
+pub mod Memories
 pub mod Modules
 pub mod Order
 pub mod Signals

@@ -5,4 +5,4 @@ use Rattle.lx_state.specs.declared.machine.Machine.{Machine}
 
 -- nothing was made, bound or spent
 abbrev pub start : Machine
-start = record { spent = 0; nodes = 0; classes = []; shaped = started [] []; owners = []; objects = []; modules = []; fsms = []; texts = []; lists = []; dictionaries = []; made = []; fsm_stmts = []; domains = []; specials = record { comb = []; sync = [] }; frame = record { locals = []; this = None; class = 0 } }
+start = record { spent = 0; nodes = 0; classes = []; shaped = started [] []; owners = []; objects = []; modules = []; fsms = []; memories = []; memory_objects = []; words = 0; ports = []; texts = []; lists = []; dictionaries = []; made = []; fsm_stmts = []; domains = []; specials = record { comb = []; sync = [] }; frame = record { locals = []; this = None; class = 0 } }

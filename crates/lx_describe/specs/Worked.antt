@@ -6,6 +6,9 @@ use Rattle.lx_text.specs.declared.faults.Kind.TheVariants as kind
 use Rattle.lx_fhdl.specs.Drafts.{started}
 use Rattle.lx_fhdl.specs.Instance.{the_expr, the_signal, the_stmt, the_target}
 use Rattle.lx_fhdl.specs.declared.design.Design.{Design}
+use Rattle.lx_fhdl.specs.declared.design.Memory.{Memory}
+use Rattle.lx_fhdl.specs.declared.design.Port.{Port}
+use Rattle.lx_fhdl.specs.declared.design.PortMode.TheVariants as mode
 use Rattle.lx_fhdl.specs.declared.design.Signal.{Signal}
 use Rattle.lx_fhdl.specs.declared.exprs.Expr.TheVariants as expr
 use Rattle.lx_fhdl.specs.declared.stmts.Stmt.TheVariants as stmt
@@ -20,6 +23,7 @@ use Rattle.lx_state.specs.declared.machine.Module.{Module}
 use Rattle.lx_state.specs.declared.machine.ModuleKind.{ModuleKind}
 use Rattle.lx_state.specs.declared.machine.ModuleKind.TheVariants as bases
 use Rattle.lx_state.specs.declared.machine.Object.{Object}
+use Rattle.lx_state.specs.declared.machine.Owner.{Owner}
 use Rattle.lx_state.specs.declared.machine.Submodule.{Submodule}
 use Rattle.lx_state.specs.declared.machine.What.{What}
 use Rattle.lx_state.specs.declared.machine.What.TheVariants as what
@@ -199,6 +203,79 @@ the_fsm = record empty_top {
   } ∷ [];
 }
 
+-- ---- memories
+
+abbrev pub bits_of : ℕ → ℕ → Signal
+bits_of line bits = record (unnamed line) { shape = unsigned bits }
+
+abbrev pub memory_design : Design
+memory_design = record (started (bits_of 6 2 ∷ bits_of 6 8 ∷ bits_of 6 8 ∷ bits_of 6 2 ∷ bit 9 ∷ bits_of 9 4 ∷ []) []) {
+  exprs = expr.Sig (the_signal 0) ∷ expr.Sig (the_signal 1) ∷ expr.Sig (the_signal 2) ∷ expr.Sig (the_signal 3) ∷ expr.Sig (the_signal 4) ∷ expr.Sig (the_signal 5) ∷ [];
+}
+
+abbrev pub whose : ℕ → List ℕ → Owner
+whose object part_ = record { object = object; part = Some part_ }
+
+-- three words of eight bits, which a clocked port writes in parts of four bits; and one word of four bits, which a port
+-- reads at once
+abbrev pub a_memory : List (List ℕ) → Memory
+a_memory path = record { path = path; width = 8; depth = 3; init = 1 ∷ 255 ∷ []; line = 5 }
+
+abbrev pub a_word : List (List ℕ) → Memory
+a_word path = record { path = path; width = 4; depth = 1; init = []; line = 8 }
+
+abbrev pub a_writer : Port
+a_writer = record { memory = 0; domain = Some 0; adr = the_signal 0; dat_r = Some (the_signal 1); dat_w = Some (the_signal 2); we = Some (the_signal 3); part = 4; mode = mode.ReadFirst }
+
+abbrev pub a_reader : Port
+a_reader = record { memory = 1; domain = None; adr = the_signal 4; dat_r = Some (the_signal 5); dat_w = None; we = None; part = 4; mode = mode.Async }
+
+-- the top bound the first memory to its attribute `store` and its port to `wr`, and the second memory to a local one, `rom`
+abbrev pub with_memories : Machine
+with_memories = record start {
+  classes = a_class (codes "Top") ∷ [];
+  shaped = memory_design;
+  owners = whose 2 (codes "adr") ∷ whose 2 (codes "dat_r") ∷ whose 2 (codes "dat_w") ∷ whose 2 (codes "we") ∷ whose 4 (codes "adr") ∷ whose 4 (codes "dat_r") ∷ [];
+  objects = an_object (what.Module 0) 1 None None None
+      ∷ an_object (what.Memory 0) 5 (Some 0) (Some (codes "store")) None
+      ∷ an_object (what.Port 0) 6 (Some 0) (Some (codes "wr")) None
+      ∷ an_object (what.Memory 1) 8 (Some 0) None (Some (codes "rom"))
+      ∷ an_object (what.Port 1) 9 (Some 0) None None
+      ∷ [];
+  modules = a_module 0 0 ((codes "store", value.Object 1) ∷ (codes "wr", value.Object 2) ∷ []) [] [] None ∷ [];
+  memories = a_memory [] ∷ a_word [] ∷ [];
+  memory_objects = 1 ∷ 3 ∷ [];
+  words = 4;
+  ports = record { port = a_writer; adr = the_expr 0; dat_r = the_expr 1; writing = Some (record { dat_w = the_expr 2; we = the_expr 3 }) }
+      ∷ record { port = a_reader; adr = the_expr 4; dat_r = the_expr 5; writing = None }
+      ∷ [];
+  domains = (codes "sys", record { declared = false; reset = true }) ∷ [];
+}
+
+-- a memory goes by its own name and not by its port's; a port that nothing binds is `port`
+abbrev pub the_memories : Description
+the_memories = record empty_top {
+  design = record memory_design {
+    signals = named_as (codes "wr" ∷ codes "adr" ∷ []) (bits_of 6 2)
+        ∷ named_as (codes "wr" ∷ codes "dat_r" ∷ []) (bits_of 6 8)
+        ∷ named_as (codes "wr" ∷ codes "dat_w" ∷ []) (bits_of 6 8)
+        ∷ named_as (codes "wr" ∷ codes "we" ∷ []) (bits_of 6 2)
+        ∷ named_as (codes "port" ∷ codes "adr" ∷ []) (bit 9)
+        ∷ named_as (codes "port" ∷ codes "dat_r" ∷ []) (bits_of 9 4)
+        ∷ reset
+        ∷ [];
+    memories = a_memory (codes "store" ∷ []) ∷ a_word (codes "rom" ∷ []) ∷ [];
+    ports = a_writer ∷ a_reader ∷ [];
+    domains = record { name = codes "sys"; reset = Some (the_signal 6) } ∷ [];
+  };
+}
+
+-- an expression reads a word by itself
+abbrev pub fetched : Machine
+fetched = record with_memories { shaped = record memory_design { exprs = expr.Sig (the_signal 4) ∷ expr.Fetch 1 4 (the_expr 0) ∷ [] } }
+
+-- ---- what is read
+
 -- the FSM, and no module beside it, is nowhere
 abbrev pub added_nowhere : Machine
 added_nowhere = record with_fsm { modules = a_module 0 0 [] (0 ∷ []) [] None ∷ a_module 1 0 [] [] [] None ∷ [] }
@@ -226,6 +303,8 @@ pub record AreDescribed : Type 0 where
   -- an expression that names its state, and a target that does
   pub state_named : read (record with_fsm { shaped = record fsm_design { exprs = expr.Sig (the_signal 2) ∷ expr.Sig (the_signal 0) ∷ [] } }) (value.Object 0) ≡ Err (record { line = 0; kind = kind.NotYetBuilt })
   pub state_assigned : read (record with_fsm { shaped = record fsm_design { targets = target.Whole (the_signal 2) ∷ target.Part (the_signal 0) 0 1 ∷ [] } }) (value.Object 0) ≡ Err (record { line = 0; kind = kind.NotYetBuilt })
+  pub memories : read with_memories (value.Object 0) ≡ Ok the_memories
+  pub read_without_a_port : read fetched (value.Object 0) ≡ Err (record { line = 0; kind = kind.NotYetBuilt })
   -- the bits of so many states
   pub no_states : state_bits 0 ≡ 1
   pub two_states : state_bits 2 ≡ 1

@@ -1,4 +1,5 @@
-//! The signals `state` of FSMs, whose bits are known once all states are: no expression and no target names one.
+//! The signals `state` of FSMs, whose bits are known once all states are: no expression and no target names one. No
+//! expression reads a memory by itself either: ports alone do.
 
 ghost use Rattle.std.specs.Prelude.{◌≡◌, true, length, option_copied, slice_get, OnOk};
 ghost use Rattle.std.specs.List.{list_all};
@@ -52,6 +53,7 @@ fn expr_passes(machine: &Machine, node: &Expr) -> bool
 {
     match node {
         Expr::Sig(signal) => !is_state(machine, *signal),
+        Expr::Fetch { .. } => false,
         _ => true,
     }
 }
@@ -88,7 +90,8 @@ fn targets_pass(machine: &Machine) -> bool
     true
 }
 
-/// No expression and no target names the signal `state` of an FSM; another machine is not built, and none is known.
+/// No expression and no target names the signal `state` of an FSM, and no expression reads a memory; another machine is not
+/// built, and none is known.
 #[tactic(auto, unfolding(crate::specs::Apart::states_apart))]
 pub fn states_apart(machine: &Machine) -> Result<(), Refusal>
     ensures is { Gives result machine.now (states_apart machine.now) }

@@ -1,10 +1,10 @@
 //! The description of a machine in which the top was made.
 
-ghost use Rattle.std.specs.Prelude.{◌≡◌, IfOk, codes, slice_get, true};
+ghost use Rattle.std.specs.Prelude.{◌≡◌, [], IfOk, OnOk, codes, slice_get, true};
 ghost use Rattle.lx_objects.specs.Modules.{some_attribute};
 ghost use Rattle.lx_describe.specs.Answers.{Answers, answer};
 ghost use Rattle.lx_describe.specs.Apart.{states_are_apart};
-ghost use Rattle.lx_describe.specs.Describing.{described, description_of, design_of, is_soc, is_system, module_line, outline_of, plain_top, some_ios, top_ios, top_of};
+ghost use Rattle.lx_describe.specs.Describing.{described, description_of, design_of, is_soc, is_system, module_line, named_of, outline_of, plain_top, some_ios, top_ios, top_of};
 ghost use Rattle.lx_describe.specs.Modules.{module_decls};
 ghost use Rattle.lx_describe.specs.Order.{in_order};
 ghost use Rattle.lx_description.specs.Laws.{no_wishes};
@@ -14,11 +14,12 @@ ghost use Rattle.lx_state.specs.Step.{Gives};
 
 use crate::apart::states_apart;
 use crate::fsms::{all_fsms, object_line};
+use crate::memories::{named_memories, ports_of};
 use crate::modules::{module_decls, module_text};
 use crate::order::in_order;
 use crate::signals::named_signals;
 use lx_description::{Description, FsmDecl, FsmStmts, ModuleDecl};
-use lx_fhdl::{Design, Domain, SigId, Signal, Wishes};
+use lx_fhdl::{Design, Domain, Memory, Port, SigId, Signal, Wishes};
 use lx_fragments::domains::{domains_made, mentions};
 use lx_fragments::fragments::{Fragments, fragments_of};
 use lx_objects::ios::ios_of;
@@ -152,21 +153,52 @@ fn outline_of(machine: &mut Machine, alloc: Global, value: Value) -> Result<Outl
     })
 }
 
-// A design of a draft with these signals.
+/// The signals and memories of a design, with their paths, and the ports of the memories.
+#[derive(Drop)]
+pub struct Named {
+    pub signals: List<Signal>,
+    pub memories: List<Memory>,
+    pub ports: List<Port>,
+}
+
+// What has a path. The memories are taken out of the machine.
+fn named_of(machine: &mut Machine, alloc: Global) -> Result<Named, NoMemory>
+    ensures named { IfOk result (λ named. named ≡ named_of machine.old) }
+    ensures rest { OnOk result (machine.new ≡ record machine.old { memories = [] }) }
+{
+    let signals = named_signals(machine, alloc)?;
+    let ports = ports_of(machine, alloc)?;
+    let memories = named_memories(machine, alloc)?;
+    Ok(Named {
+        signals,
+        memories,
+        ports,
+    })
+}
+
+// A design of a draft with these signals and memories.
 fn design_of(
     shaped: Shaped,
-    alloc: Global,
-    signals: List<Signal>,
+    named: Named,
     fragments: Fragments,
     domains: List<Domain>,
     ios: List<SigId>,
 ) -> Design
-    ensures is { result ≡ design_of shaped signals fragments domains ios }
+    ensures is { result ≡ design_of shaped named fragments domains ios }
     ensures keeps { DraftKeeps shaped }
 {
+    let Named {
+        signals,
+        memories,
+        ports,
+    } = named;
     let Fragments { comb, sync } = fragments;
-    let design = shaped.finish(comb, sync, domains, List::new(alloc), ios);
-    Design { signals, ..design }
+    let design = shaped.finish(comb, sync, domains, ports, ios);
+    Design {
+        signals,
+        memories,
+        ..design
+    }
 }
 
 // What all modules declare.
@@ -196,10 +228,10 @@ fn description_of(
     } = outline;
     let name = module_text(machine, alloc, top)?;
     let modules = all_decls(machine, alloc, top)?;
-    let signals = named_signals(machine, alloc)?;
+    let named = named_of(machine, alloc)?;
     let fsm_stmts = mem::replace(&mut machine.fsm_stmts, FsmStmts::new(alloc));
     let shaped = mem::replace(&mut machine.shaped, Shaped::new(alloc));
-    let design = design_of(shaped, alloc, signals, fragments, domains, ios);
+    let design = design_of(shaped, named, fragments, domains, ios);
     Ok(Description {
         top: name,
         soc: false,

@@ -4,6 +4,7 @@
 mod apart;
 pub mod describing;
 mod fsms;
+pub mod memories;
 pub mod modules;
 pub mod order;
 pub mod signals;

@@ -90,6 +90,7 @@ fn object_is_fsm(machine: &Machine, at: usize) -> bool
         Some(object) => match object.what {
             What::Fsm(_) => true,
             What::Signal(_) | What::Module(_) | What::ClockDomain(_) | What::MultiReg => false,
+            What::Memory(_) | What::Port(_) => false,
         },
         None => false,
     }

@@ -2,6 +2,7 @@
 use Rattle.std.specs.Prelude.{◌≡◌, ℕ, false, List, [], ◌∷◌, Option, Some, None, Ok, Err, codes}
 use Rattle.lx_text.specs.declared.faults.Kind.TheVariants as kind
 use Rattle.lx_fhdl.specs.Instance.{the_signal}
+use Rattle.lx_fhdl.specs.declared.design.PortMode.TheVariants as mode
 use Rattle.lx_description.specs.Below.{FsmStmtId}
 use Rattle.lx_description.specs.Instance.{and_description, and_design, signal_of, the_fsm_stmt}
 use Rattle.lx_description.specs.declared.description.Description.{Description}
@@ -34,12 +35,24 @@ with_fsms fsms = record and_description { fsm_stmts = fsm.NextState (codes "C") 
 abbrev pub clocked : List FsmDecl → Description
 clocked fsms = record (with_fsms fsms) { design = record and_design { signals = signal_of (codes "s" ∷ []) 1 false ∷ []; domains = record { name = codes "sys"; reset = None } ∷ [] } }
 
+-- a memory of nine words of four bits, the first of which is z, and a port of the memory k, which reads at once
+abbrev pub with_memory : (z k : ℕ) → Description
+with_memory z k = record and_description {
+  design = record and_design {
+    memories = record { path = codes "m" ∷ []; width = 4; depth = 9; init = z ∷ []; line = 5 } ∷ [];
+    ports = record { memory = k; domain = None; adr = the_signal 0; dat_r = Some (the_signal 1); dat_w = None; we = None; part = 2; mode = mode.Async } ∷ [];
+  };
+}
+
 -- What is answered for them.
 pub record AreTested : Type 0 where
   pub kept_as_it_is : kept and_description ≡ Ok and_description
   pub not_built : kept no_such_port ≡ Err (record { line = 0; kind = kind.NotYetBuilt })
   -- a state whose statement isn't there
   pub no_statement : kept (with_fsms (an_fsm 7 None (a_state (codes "A") (the_fsm_stmt 1 ∷ []) ∷ []) ∷ [])) ≡ Err (record { line = 0; kind = kind.NotYetBuilt })
+  pub memory_stands : kept (with_memory 15 0) ≡ Ok (with_memory 15 0)
+  pub word_too_wide : kept (with_memory 16 0) ≡ Err (record { line = 0; kind = kind.NotYetBuilt })
+  pub no_such_memory : kept (with_memory 15 1) ≡ Err (record { line = 0; kind = kind.NotYetBuilt })
   pub no_fsm : checked and_description ≡ Ok and_description
   pub all_known : checked (with_fsms (known 7 ∷ [])) ≡ Ok (with_fsms (known 7 ∷ []))
   pub no_states : checked (with_fsms (an_fsm 7 (Some (codes "R")) [] ∷ [])) ≡ Err (record { line = 7; kind = kind.NoStates })

@@ -4,6 +4,7 @@
 
 mod exprs;
 mod fsms;
+mod memories;
 mod pieces;
 mod sheet;
 mod stmts;

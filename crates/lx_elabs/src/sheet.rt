@@ -2,6 +2,7 @@
 
 use crate::exprs::{put_all_targets, put_nodes};
 use crate::fsms::put_fsms;
+use crate::memories::put_memories;
 use crate::pieces::{put, put_line, put_path, put_signals, put_stmts};
 use crate::stmts::put_all_stmts;
 use lx_description::{Description, ModuleDecl, Part};
@@ -90,6 +91,7 @@ fn put_design(design: &Design, out: &mut Text) -> Result<(), NoMemory> {
     for (place, signal) in design.signals.as_slice().iter().enumerate() {
         put_signal(place, signal, out)?;
     }
+    put_memories(design, out)?;
     put_arenas(design, out)?;
     put_lists(design, out)
 }

@@ -1,3 +1,5 @@
+mod Addresses
 pub mod Behind
 mod Keys
 mod Longer
+mod Parts

@@ -12,7 +12,6 @@ use Rattle.lx_fhdl.specs.declared.stmts.Target.{Target}
 use Rattle.lx_shaped.specs.Making.{make_expr, make_stmt, make_target}
 use Rattle.lx_shaped.specs.declared.outcome.Outcome.{Outcome}
 use Rattle.lx_shaped.specs.declared.outcome.Outcome.TheVariants as outcome
-use Rattle.lx_state.specs.declared.machine.Machine.{Machine}
 use Rattle.lx_state.specs.declared.values.Value.{Value}
 use Rattle.lx_state.specs.declared.values.Value.TheVariants as value
 use Rattle.lx_state.specs.Step.{Step, give, fault, ◌>>=◌}

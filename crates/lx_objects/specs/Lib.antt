@@ -4,7 +4,9 @@ pub mod Domains
 pub mod Exprs
 pub mod Fsms
 pub mod Ios
+pub mod Memories
 pub mod Modules
 pub mod Signals
 pub mod Statements
 pub mod Worked
+pub mod WorkedMemories

@@ -5,7 +5,6 @@ use Rattle.lx_fhdl.specs.declared.design.Signal.{Signal}
 use Rattle.lx_fhdl.specs.declared.exprs.SigId.{SigId}
 use Rattle.lx_fhdl.specs.declared.exprs.Expr.TheVariants as expr
 use Rattle.lx_shaped.specs.Making.{make_signal}
-use Rattle.lx_state.specs.declared.machine.Machine.{Machine}
 use Rattle.lx_state.specs.declared.machine.What.TheVariants as what
 use Rattle.lx_state.specs.declared.values.Value.{Value}
 use Rattle.lx_state.specs.declared.values.Value.TheVariants as value

@@ -127,6 +127,8 @@ fn unbound(what: What) -> Option<ClockDomain>
         What::Module(_) => None,
         What::MultiReg => None,
         What::Fsm(_) => None,
+        What::Memory(_) => None,
+        What::Port(_) => None,
     }
 }
 

@@ -7,6 +7,7 @@ pub mod domains;
 pub mod exprs;
 pub mod fsms;
 pub mod ios;
+pub mod memories;
 pub mod modules;
 pub mod signals;
 pub mod statements;

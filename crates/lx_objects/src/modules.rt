@@ -240,6 +240,7 @@ fn module_of_what(what: What) -> Option<usize>
     match what {
         What::Module(at) => Some(at),
         What::Signal(_) | What::ClockDomain(_) | What::MultiReg | What::Fsm(_) => None,
+        What::Memory(_) | What::Port(_) => None,
     }
 }
 
@@ -280,6 +281,7 @@ fn added_of_what(machine: &Machine, what: What) -> Option<usize>
         What::Module(at) => Some(at),
         What::Fsm(at) => module_of_fsm(machine, at),
         What::Signal(_) | What::ClockDomain(_) | What::MultiReg => None,
+        What::Memory(_) | What::Port(_) => None,
     }
 }
 

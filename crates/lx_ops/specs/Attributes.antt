@@ -10,8 +10,10 @@ use Rattle.lx_state.specs.declared.machine.Module.{Module}
 use Rattle.lx_state.specs.declared.machine.ModuleKind.{ModuleKind}
 use Rattle.lx_state.specs.declared.machine.ModuleKind.TheVariants as bases
 use Rattle.lx_state.specs.declared.machine.Object.{Object}
+use Rattle.lx_state.specs.declared.machine.PortState.{PortState}
 use Rattle.lx_state.specs.declared.machine.What.{What}
 use Rattle.lx_state.specs.declared.machine.What.TheVariants as what
+use Rattle.lx_state.specs.declared.machine.Writing.{Writing}
 use Rattle.lx_state.specs.declared.values.Builtin.{Builtin}
 use Rattle.lx_state.specs.declared.values.Builtin.TheVariants as builtin
 use Rattle.lx_state.specs.declared.values.Method.TheVariants as method
@@ -25,7 +27,7 @@ use Rattle.lx_ops.specs.declared.attributes.Fragment.TheVariants as fragment
 abbrev pub unknown : ℕ → List ℕ → Step Value
 unknown line name = fault line (kind.UnknownName name)
 
--- ---- modules and FSMs
+-- ---- objects
 
 -- the fragment of a module with this name
 abbrev pub fragment_named : List ℕ → Option Fragment
@@ -66,9 +68,31 @@ fsm_attribute line name at m =
     else if bytes_eq name (codes "ongoing") then give (value.Method (method.Ongoing at)) m
     else unknown line name m
 
+-- the method of a memory
+abbrev pub memory_attribute : ℕ → List ℕ → ℕ → Step Value
+memory_attribute line name at m = if bytes_eq name (codes "get_port") then give (value.Method (method.GetPort at)) m else unknown line name m
+
+-- a port has these two where it may write
+abbrev pub writing_attribute : ℕ → List ℕ → Option Writing → Step Value
+writing_attribute line name None m = unknown line name m
+writing_attribute line name (Some w) m =
+    if bytes_eq name (codes "dat_w") then give (value.Expr w.dat_w) m
+    else if bytes_eq name (codes "we") then give (value.Expr w.we) m
+    else unknown line name m
+
+-- the signals of a port
+abbrev pub port_attribute : ℕ → List ℕ → Option PortState → Step Value
+port_attribute line name None m = unknown line name m
+port_attribute line name (Some p) m =
+    if bytes_eq name (codes "adr") then give (value.Expr p.adr) m
+    else if bytes_eq name (codes "dat_r") then give (value.Expr p.dat_r) m
+    else writing_attribute line name p.writing m
+
 abbrev pub what_attribute : ℕ → List ℕ → What → Step Value
 what_attribute line name (what.Module at) m = module_attribute line at name m
 what_attribute line name (what.Fsm at) m = fsm_attribute line name at m
+what_attribute line name (what.Memory at) m = memory_attribute line name at m
+what_attribute line name (what.Port at) m = port_attribute line name (slice_get m.ports at) m
 what_attribute line name _ m = unknown line name m
 
 abbrev pub object_attribute : ℕ → List ℕ → Option Object → Step Value

@@ -8,6 +8,7 @@ use Rattle.lx_tables.specs.declared.operators.Op.TheVariants as node
 use Rattle.lx_value.specs.declared.numbers.PyOp.TheVariants as op
 use Rattle.lx_fhdl.specs.Drafts.{started}
 use Rattle.lx_fhdl.specs.Instance.{signal_of, the_expr, the_signal, the_target}
+use Rattle.lx_fhdl.specs.declared.design.PortMode.TheVariants as mode
 use Rattle.lx_fhdl.specs.declared.exprs.Expr.{Expr}
 use Rattle.lx_fhdl.specs.declared.exprs.Expr.TheVariants as expr
 use Rattle.lx_fhdl.specs.declared.stmts.Target.TheVariants as target
@@ -23,6 +24,7 @@ use Rattle.lx_state.specs.declared.machine.Module.{Module}
 use Rattle.lx_state.specs.declared.machine.ModuleKind.{ModuleKind}
 use Rattle.lx_state.specs.declared.machine.ModuleKind.TheVariants as bases
 use Rattle.lx_state.specs.declared.machine.Object.{Object}
+use Rattle.lx_state.specs.declared.machine.PortState.{PortState}
 use Rattle.lx_state.specs.declared.machine.Submodule.{Submodule}
 use Rattle.lx_state.specs.declared.machine.What.{What}
 use Rattle.lx_state.specs.declared.machine.What.TheVariants as what
@@ -146,6 +148,22 @@ staged = record top {
 abbrev pub an_fsm : Value
 an_fsm = value.Object 1
 
+abbrev pub a_reader : PortState
+a_reader = record {
+  port = record { memory = 0; domain = Some 0; adr = the_signal 0; dat_r = Some (the_signal 1); dat_w = None; we = None; part = 8; mode = mode.WriteFirst };
+  adr = the_expr 0;
+  dat_r = the_expr 1;
+  writing = None;
+}
+
+-- with a memory, a port that may write, one that can't, and a list of the memory and a port
+abbrev pub stored : Machine
+stored = record top {
+  objects = top.objects ++ an_object (what.Memory 0) ∷ an_object (what.Port 0) ∷ an_object (what.Port 1) ∷ [];
+  ports = record a_reader { writing = Some (record { dat_w = the_expr 2; we = the_expr 3 }) } ∷ a_reader ∷ [];
+  lists = record (items (value.Object 1 ∷ value.Object 2 ∷ [])) { leaves = leaves.Specials } ∷ [];
+}
+
 abbrev pub submodules : Machine → List (List Submodule)
 submodules m = map (λ (x : Module). x.submodules) m.modules
 
@@ -248,6 +266,26 @@ pub record HaveStates : Type 0 where
   pub added_by_name : seen submodules (bind_at 9 (under fragment.Submodules) (codes "f") an_fsm staged) ≡ Ok ((record { place = 1; named = true } ∷ []) ∷ [] ∷ [])
   pub added_without : seen submodules (add_at 9 (holder.Plain (value.Object 0)) (codes "submodules") an_fsm staged) ≡ Ok ((record { place = 1; named = false } ∷ []) ∷ [] ∷ [])
   pub as_special : value_of (bind_at 9 (under fragment.Specials) (codes "f") an_fsm staged) ≡ at_nine kind.WrongKind
+
+-- Of memories and their ports.
+pub record HaveMemories : Type 0 where
+  pub get_port : value_of (attribute_of 9 (value.Object 1) (codes "get_port") stored) ≡ Ok (value.Method (method.GetPort 0))
+  pub no_width : value_of (attribute_of 9 (value.Object 1) (codes "width") stored) ≡ at_nine (kind.UnknownName (codes "width"))
+  pub address : value_of (attribute_of 9 (value.Object 2) (codes "adr") stored) ≡ Ok (value.Expr (the_expr 0))
+  pub read : value_of (attribute_of 9 (value.Object 2) (codes "dat_r") stored) ≡ Ok (value.Expr (the_expr 1))
+  pub written : value_of (attribute_of 9 (value.Object 2) (codes "dat_w") stored) ≡ Ok (value.Expr (the_expr 2))
+  pub parts_written : value_of (attribute_of 9 (value.Object 2) (codes "we") stored) ≡ Ok (value.Expr (the_expr 3))
+  pub no_enable : value_of (attribute_of 9 (value.Object 2) (codes "re") stored) ≡ at_nine (kind.UnknownName (codes "re"))
+  -- a port that can't write
+  pub reader : value_of (attribute_of 9 (value.Object 3) (codes "dat_r") stored) ≡ Ok (value.Expr (the_expr 1))
+  pub reader_writes : value_of (attribute_of 9 (value.Object 3) (codes "dat_w") stored) ≡ at_nine (kind.UnknownName (codes "dat_w"))
+  pub reader_enables : value_of (attribute_of 9 (value.Object 3) (codes "we") stored) ≡ at_nine (kind.UnknownName (codes "we"))
+  pub not_bound : value_of (bind_at 9 (holder.Plain (value.Object 2)) (codes "y") (int 5) stored) ≡ at_nine kind.WrongKind
+  -- both are specials
+  pub memory_bound : value_of (bind_at 9 (under fragment.Specials) (codes "x") (value.Object 1) stored) ≡ Ok tt
+  pub port_bound : value_of (bind_at 9 (under fragment.Specials) (codes "x") (value.Object 2) stored) ≡ Ok tt
+  pub both_added : value_of (add_at 9 (holder.Plain (value.Object 0)) (codes "specials") (value.List 0) stored) ≡ Ok tt
+  pub memory_as_module : value_of (bind_at 9 (under fragment.Submodules) (codes "x") (value.Object 1) stored) ≡ at_nine kind.WrongKind
 
 -- Of the ports of the top.
 pub record HavePorts : Type 0 where

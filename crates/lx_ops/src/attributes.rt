@@ -2,9 +2,10 @@
 
 ghost use Rattle.std.specs.Prelude.{◌≡◌, codes, slice_get};
 ghost use Rattle.lx_state.specs.Step.{Gives};
-ghost use Rattle.lx_ops.specs.Attributes.{attribute_of, branch, builtin_attribute, fragment_named, fsm_attribute, if_branch, is_system, is_system_name, is_unbuilt, last_branch, made_attribute, module_attribute, object_attribute, single, what_attribute};
+ghost use Rattle.lx_ops.specs.Attributes.{attribute_of, branch, builtin_attribute, fragment_named, fsm_attribute, if_branch, is_system, is_system_name, is_unbuilt, last_branch, made_attribute, memory_attribute, module_attribute, object_attribute, port_attribute, single, what_attribute, writing_attribute};
 
 use lx_objects::modules::attribute;
+use lx_state::machine::Writing;
 use lx_state::work::{fault, unknown};
 use lx_state::{Builtin, Form, Machine, Method, ModuleKind, Value, What};
 use lx_text::{Kind, Refusal};
@@ -113,6 +114,73 @@ fn fsm_attribute(
     }
 }
 
+// The method of a memory.
+fn memory_attribute(
+    machine: &Machine,
+    alloc: Global,
+    line: u32,
+    name: &[u8],
+    at: usize,
+) -> Result<Value, Refusal>
+    ensures { Gives result machine.now (memory_attribute line name.now at machine.now) }
+{
+    let _machine = machine;
+    if name == b"get_port".as_slice() {
+        Ok(Value::Method(Method::GetPort(at)))
+    } else {
+        Err(unknown(alloc, line, name))
+    }
+}
+
+// A signal by which a port writes.
+fn writing_attribute(
+    machine: &Machine,
+    alloc: Global,
+    line: u32,
+    name: &[u8],
+    writing: Option<Writing>,
+) -> Result<Value, Refusal>
+    ensures { Gives result machine.now (writing_attribute line name.now writing machine.now) }
+{
+    let _machine = machine;
+    match writing {
+        Some(writing) => {
+            if name == b"dat_w".as_slice() {
+                Ok(Value::Expr(writing.dat_w))
+            } else if name == b"we".as_slice() {
+                Ok(Value::Expr(writing.we))
+            } else {
+                Err(unknown(alloc, line, name))
+            }
+        }
+        None => Err(unknown(alloc, line, name)),
+    }
+}
+
+// A signal of a port.
+fn port_attribute(
+    machine: &Machine,
+    alloc: Global,
+    line: u32,
+    name: &[u8],
+    at: usize,
+) -> Result<Value, Refusal>
+    ensures { Gives result machine.now (port_attribute line name.now (slice_get machine.now.ports at) machine.now) }
+{
+    match machine.ports.get(at) {
+        Some(port) => {
+            if name == b"adr".as_slice() {
+                Ok(Value::Expr(port.adr))
+            } else if name == b"dat_r".as_slice() {
+                Ok(Value::Expr(port.dat_r))
+            } else {
+                writing_attribute(machine, alloc, line, name, port.writing)
+            }
+        }
+        None => Err(unknown(alloc, line, name)),
+    }
+}
+
 fn what_attribute(
     machine: &Machine,
     alloc: Global,
@@ -126,6 +194,8 @@ fn what_attribute(
         What::Module(at) => module_attribute(machine, alloc, line, at, name),
         What::Fsm(at) => fsm_attribute(machine, alloc, line, name, at),
         What::Signal(_) | What::ClockDomain(_) | What::MultiReg => Err(unknown(alloc, line, name)),
+        What::Memory(at) => memory_attribute(machine, alloc, line, name, at),
+        What::Port(at) => port_attribute(machine, alloc, line, name, at),
     }
 }
 
@@ -252,7 +322,7 @@ fn builtin_attribute(
 }
 
 /// An attribute of a value: `eq` of an expression of FHDL, a further branch of an `If`, what was bound in a module, a
-/// method of an FSM, or the `__init__` of `super()`.
+/// method of an FSM or a memory, a signal of a memory's port, or the `__init__` of `super()`.
 #[tactic(auto, unfolding(crate::specs::Attributes::attribute_of))]
 pub fn attribute_of(
     machine: &Machine,

@@ -1,6 +1,6 @@
 //! Operators worked by hand.
 
-ghost use Rattle.lx_ops.specs.Worked.{AreAssigned, AreCompared, AreComputed, AreExpressed, AreLookedAt, HaveAttributes, HavePorts, HaveStates};
+ghost use Rattle.lx_ops.specs.Worked.{AreAssigned, AreCompared, AreComputed, AreExpressed, AreLookedAt, HaveAttributes, HaveMemories, HavePorts, HaveStates};
 
 /// What operators do, worked by hand.
 pub fn operators_are_worked()
@@ -12,4 +12,5 @@ pub fn operators_are_worked()
     ensures looked_at { AreLookedAt }
     ensures ports { HavePorts }
     ensures states { HaveStates }
+    ensures memories { HaveMemories }
 {}

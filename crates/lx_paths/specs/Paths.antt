@@ -32,6 +32,8 @@ kind_name m (what.Module at) = module_name m (slice_get m.modules at)
 kind_name m (what.ClockDomain d) = codes "clockdomain"
 kind_name m what.MultiReg = codes "multireg"
 kind_name m (what.Fsm k) = codes "fsm"
+kind_name m (what.Memory k) = codes "mem"
+kind_name m (what.Port j) = codes "port"
 
 -- `name=`, else that of the first binding to an attribute, else that of the first one to a local name
 abbrev pub chosen_name : Object → Option (List ℕ)

@@ -10,6 +10,7 @@ use Rattle.lx_state.specs.declared.machine.Module.{Module}
 use Rattle.lx_state.specs.declared.machine.ModuleKind.TheVariants as bases
 use Rattle.lx_state.specs.declared.machine.Object.{Object}
 use Rattle.lx_state.specs.declared.machine.Owner.{Owner}
+use Rattle.lx_state.specs.declared.machine.What.{What}
 use Rattle.lx_state.specs.declared.machine.What.TheVariants as what
 use Rattle.lx_state.specs.Naming.{bind_name}
 use Rattle.lx_state.specs.Step.{◌>>=◌}
@@ -77,6 +78,23 @@ fsms = record start {
   shaped = started (signal_of [] 1 0 ∷ signal_of [] 1 0 ∷ signal_of [] 1 0 ∷ signal_of [] 1 0 ∷ signal_of [] 1 0 ∷ []) [];
 }
 
+-- a memory that the top bound to a local `table`, with a port `rd`; and in its module `row` an unbound memory, with a port
+-- that is unbound too
+abbrev pub an_object : What → Option ℕ → Name → Name → Object
+an_object what_ maker attribute local = record (a_signal maker attribute local) { what = what_ }
+
+abbrev pub memories : Machine
+memories = record start {
+  classes = a_class (codes "Row") ∷ a_class (codes "Top") ∷ [];
+  objects = a_module 0 None None None
+      ∷ an_object (what.Memory 0) (Some 0) None (Some (codes "table")) ∷ an_object (what.Port 0) (Some 0) (Some (codes "rd")) None
+      ∷ a_module 1 (Some 0) (Some (codes "row")) None ∷ an_object (what.Memory 1) (Some 1) None None ∷ an_object (what.Port 1) (Some 1) None None ∷ [];
+  modules = the_module 0 1 ∷ the_module 3 0 ∷ [];
+  memory_objects = 1 ∷ 4 ∷ [];
+  owners = whose 2 (Some (codes "adr")) ∷ whose 2 (Some (codes "dat_r")) ∷ whose 5 (Some (codes "adr")) ∷ whose 5 (Some (codes "dat_r")) ∷ [];
+  shaped = started (signal_of [] 2 0 ∷ signal_of [] 2 0 ∷ signal_of [] 2 0 ∷ signal_of [] 2 0 ∷ []) [];
+}
+
 -- What the names and paths are.
 pub record AreWorked : Type 0 where
   -- modules of a loop have the loop's name, and their paths needn't differ
@@ -102,3 +120,7 @@ pub record AreWorked : Type 0 where
   pub nothing : path_of rows 9 (Some (codes "re")) ≡ []
   -- an FSM's own signal is its part `state`; what is `ongoing` of a state has the state's number, whichever was asked for first
   pub of_fsms : signal_paths fsms ≡ (codes "ctl" ∷ codes "state" ∷ []) ∷ (codes "ctl" ∷ codes "ongoing_1" ∷ []) ∷ (codes "fsm" ∷ codes "state" ∷ []) ∷ (codes "s" ∷ []) ∷ (codes "ctl" ∷ codes "ongoing_0" ∷ []) ∷ []
+  -- a port goes by its own name and not by its memory's; the parts of a port are its signals
+  pub memory : path_of memories 1 None ≡ codes "table" ∷ []
+  pub unnamed_memory : path_of memories 4 None ≡ codes "row" ∷ codes "mem" ∷ []
+  pub of_ports : signal_paths memories ≡ (codes "rd" ∷ codes "adr" ∷ []) ∷ (codes "rd" ∷ codes "dat_r" ∷ []) ∷ (codes "row" ∷ codes "port" ∷ codes "adr" ∷ []) ∷ (codes "row" ∷ codes "port" ∷ codes "dat_r" ∷ []) ∷ []

@@ -39,6 +39,8 @@ fn kind_name(machine: &Machine, alloc: Global, what: What) -> Result<Word, NoMem
         What::ClockDomain(_) => Word::new(alloc, b"clockdomain"),
         What::MultiReg => Word::new(alloc, b"multireg"),
         What::Fsm(_) => Word::new(alloc, b"fsm"),
+        What::Memory(_) => Word::new(alloc, b"mem"),
+        What::Port(_) => Word::new(alloc, b"port"),
     }
 }
 

@@ -129,6 +129,7 @@ fn what_fsm(machine: &Machine, what: What) -> Option<&Fsm>
     match what {
         What::Fsm(at) => machine.fsms.get(at),
         What::Signal(_) | What::Module(_) | What::ClockDomain(_) | What::MultiReg => None,
+        What::Memory(_) | What::Port(_) => None,
     }
 }
 

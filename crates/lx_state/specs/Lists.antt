@@ -45,6 +45,8 @@ leaf_of_what (what.ClockDomain d) = leaves.ClockDomains
 leaf_of_what what.MultiReg = leaves.Specials
 -- an FSM is added as a module is
 leaf_of_what (what.Fsm k) = leaves.Modules
+leaf_of_what (what.Memory k) = leaves.Specials
+leaf_of_what (what.Port j) = leaves.Specials
 
 abbrev pub leaf_of : Option Object → Leaves
 leaf_of None = leaves.Others

@@ -26,7 +26,7 @@ use Rattle.lx_state.specs.Work.{spend}
 
 -- nothing was made
 abbrev pub start : Machine
-start = record { spent = 0; nodes = 0; classes = []; shaped = started [] []; owners = []; objects = []; modules = []; fsms = []; texts = []; lists = []; dictionaries = []; made = []; fsm_stmts = []; domains = []; specials = record { comb = []; sync = [] }; frame = record { locals = []; this = None; class = 0 } }
+start = record { spent = 0; nodes = 0; classes = []; shaped = started [] []; owners = []; objects = []; modules = []; fsms = []; memories = []; memory_objects = []; words = 0; ports = []; texts = []; lists = []; dictionaries = []; made = []; fsm_stmts = []; domains = []; specials = record { comb = []; sync = [] }; frame = record { locals = []; this = None; class = 0 } }
 
 -- ---- what is seen of an outcome
 
@@ -79,10 +79,10 @@ locals m = m.frame.locals
 abbrev pub a_statement : Bool → Made
 a_statement in_state = record { form = form.Else 0 []; line = 1; size = 1; depth = 1; in_state = in_state }
 
--- a `ClockDomain`, two `MultiReg`s, a module, an FSM, and `[]`; a statement, and one that stands in a state alone
+-- a `ClockDomain`, two `MultiReg`s, a module, an FSM, a memory, a port, and `[]`; a statement, and one that stands in a state alone
 abbrev pub kinds : Machine
 kinds = record start {
-  objects = record object { what = what.ClockDomain (record { reset = true; bound = false }) } ∷ record object { what = what.MultiReg } ∷ record object { what = what.MultiReg } ∷ object ∷ record object { what = what.Fsm 0 } ∷ [];
+  objects = record object { what = what.ClockDomain (record { reset = true; bound = false }) } ∷ record object { what = what.MultiReg } ∷ record object { what = what.MultiReg } ∷ object ∷ record object { what = what.Fsm 0 } ∷ record object { what = what.Memory 0 } ∷ record object { what = what.Port 0 } ∷ [];
   lists = record (items [] 1) { leaves = leaves.Nothing } ∷ [];
   made = a_statement false ∷ a_statement true ∷ [];
 }
@@ -102,6 +102,7 @@ pub record AreWorked : Type 0 where
   pub too_deep : seen spent (list_made 9 (value.List 0 ∷ []) deep) ≡ Err (record { line = 9; kind = kind.Limit limit.Depth })
   -- what hangs in values is of one kind, or of several
   pub one_kind : all_leaves kinds (value.Object 1 ∷ value.List 0 ∷ value.Object 2 ∷ []) ≡ leaves.Specials
+  pub memories_beside_crossings : all_leaves kinds (value.Object 5 ∷ value.Object 1 ∷ value.Object 6 ∷ []) ≡ leaves.Specials
   pub another_kind : all_leaves kinds (value.Tuple 0 ∷ value.Object 0 ∷ []) ≡ leaves.ClockDomains
   pub two_kinds : all_leaves kinds (value.Object 3 ∷ value.Object 1 ∷ []) ≡ leaves.Others
   pub two_kinds_more : all_leaves kinds (value.Object 0 ∷ value.Object 1 ∷ []) ≡ leaves.Others

@@ -46,6 +46,7 @@ fn leaf_of_what(what: What) -> Leaves
         What::ClockDomain(_) => Leaves::ClockDomains,
         What::MultiReg => Leaves::Specials,
         What::Fsm(_) => Leaves::Modules,
+        What::Memory(_) | What::Port(_) => Leaves::Specials,
     }
 }
 

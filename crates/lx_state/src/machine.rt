@@ -2,7 +2,7 @@
 
 use crate::values::Value;
 use lx_description::FsmStmts;
-use lx_fhdl::{ExprId, SigId, TargetId};
+use lx_fhdl::{ExprId, Memory, Port, SigId, TargetId};
 use lx_names::Table;
 use lx_shaped::Shaped;
 use lx_text::{List, Word};
@@ -25,6 +25,14 @@ pub struct Machine {
     pub objects: List<Object>,
     pub modules: List<Module>,
     pub fsms: List<Fsm>,
+    /// The memories in order of making; they have no paths before they are described.
+    pub memories: List<Memory>,
+    /// The place of each memory among the objects.
+    pub memory_objects: List<usize>,
+    /// The words of all memories, which count towards a limit.
+    pub words: u32,
+    /// The ports of all memories, in order of making.
+    pub ports: List<PortState>,
     pub texts: List<Word>,
     /// The items of lists, tuples and Arrays.
     pub lists: List<Items>,
@@ -104,7 +112,7 @@ pub enum Leaves {
     Modules,
     /// `ClockDomain`s alone.
     ClockDomains,
-    /// `MultiReg`s alone.
+    /// `MultiReg`s, memories and their ports alone.
     Specials,
     /// Something else, or things of several kinds.
     Others,
@@ -149,6 +157,10 @@ pub enum What {
     ClockDomain(ClockDomain),
     MultiReg,
     Fsm(usize),
+    /// A memory, by its place among the memories.
+    Memory(usize),
+    /// A port of a memory, by its place among the ports.
+    Port(usize),
 }
 
 /// A `ClockDomain`, which declares a domain when it is first bound to an attribute.
@@ -161,7 +173,7 @@ pub struct ClockDomain {
 }
 
 /// Whose a signal is: an object's own, or a part of one. An FSM's own is `state`, and a part of it is named by the state
-/// that it is `ongoing` of.
+/// that it is `ongoing` of. A port of a memory has the parts `adr`, `dat_r`, `dat_w` and `we`.
 #[derive(Drop)]
 pub struct Owner {
     pub object: usize,
@@ -195,6 +207,23 @@ pub struct Ongoing {
     pub read: ExprId,
     /// The line of the first call.
     pub line: u32,
+}
+
+/// A port of a memory, with the expressions that read its signals.
+#[derive(Clone, Copy)]
+pub struct PortState {
+    pub port: Port,
+    pub adr: ExprId,
+    pub dat_r: ExprId,
+    /// Where it may write.
+    pub writing: Option<Writing>,
+}
+
+/// The expressions that read what a port writes, and by what it is told which parts.
+#[derive(Clone, Copy)]
+pub struct Writing {
+    pub dat_w: ExprId,
+    pub we: ExprId,
 }
 
 /// A module and its fragment.

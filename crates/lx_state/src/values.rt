@@ -42,6 +42,8 @@ pub enum Method {
     Act(usize),
     /// `ongoing` of an FSM.
     Ongoing(usize),
+    /// `get_port` of a memory.
+    GetPort(usize),
 }
 
 /// The names that every description may use ("Built-in names" of the description's language).

@@ -17,6 +17,7 @@ use Rattle.lx_objects.specs.Modules.{attribute}
 use Rattle.lx_objects.specs.Signals.{keep_owner, new_signal, put_signal, signal_made, signal_value}
 use Rattle.lx_objects.specs.Fsms.{act_made, change_fsm, fsm_made, fsm_object, keep_fsm, keep_stand_in, new_ongoing, ongoing_made, state_fits}
 use Rattle.lx_objects.specs.Ios as ios
+use Rattle.lx_objects.specs.Memories.{address_bits_from, extent_of, keep_memory, keep_port, memory_made, mention_some, pin_made, port_made, port_with_pins, spend_words, write_pins_made}
 use Rattle.lx_objects.specs.Statements.{all_hanging, all_of, keep_assigning, keep_made, next_state_made, next_value_made, node_sum, only, statements_of}
 use Rattle.lx_ops.specs.Attributes.{attribute_of, module_attribute}
 use Rattle.lx_ops.specs.Exprs.{binary_made, constant, expr_of, exprs_of, least, unary_made}
@@ -27,6 +28,7 @@ use Rattle.lx_ops.specs.Targets.{aim_made, aim_within, assign_next, target_of}
 use Rattle.lx_builtins.specs.Domains.{clock_domain_called, count_looked_at, each_looked_at, multireg_called, multireg_from, shape_of, signal_looked_at, source_looked_at}
 use Rattle.lx_builtins.specs.Exprs.{array_called, array_of_list, cat_called, constant_called, mux_called, operands_only, replicate_called, shaped_constant, stated, stated_pair}
 use Rattle.lx_builtins.specs.Fsms.{act_called, act_under, fsm_called, next_state_called, next_value_called, ongoing_called, state_name}
+use Rattle.lx_builtins.specs.Memories.{arguments_looked_at, call_looked_at, contents_looked_at, contents_of, depth_looked_at, get_port_called, memory_called, memory_from, mode_looked_at, mode_of, part_looked_at, port_from, width_looked_at}
 use Rattle.lx_builtins.specs.Numbers.{bits_for_called, counts, exponent_below, int_called, log2_int_called, max_called, min_called, one_integer, range_called, steps_from, str_called}
 use Rattle.lx_builtins.specs.Objects.{getattr_called, holds_attributes, setattr_called, setattr_on}
 use Rattle.lx_builtins.specs.Sequences.{counted, enumerate_called, joint_pairs, len_called, list_called, numbered_pairs, pair_made, reversed_called, zip_called}
@@ -98,7 +100,7 @@ returns-clause-expressed c = record {
   array_of_nothing = refl;
   bad_name = refl;
   unbound = refl;
-  memory = refl;
+  not_built = refl;
   mode = refl;
 }
 
@@ -120,4 +122,53 @@ returns-clause-staged c = record {
   next_state_signal = refl;
   next_value = refl;
   next_value_of_one = refl;
+}
+
+pub returns-clause-stored : goal.returns-clause-stored
+unfolding bounds_of is_wrong_count int_of ints_of list_of object_made one_more keep_memory memory_made spend_words bound_to builtin_called arguments_looked_at call_looked_at contents_looked_at contents_of depth_looked_at memory_called memory_from sized width_looked_at
+returns-clause-stored c = record {
+  by_place = refl;
+  by_name = refl;
+  without_contents = refl;
+  without_depth = refl;
+  no_width = refl;
+  wide = refl;
+  no_words = refl;
+  below_zero = refl;
+  most_words = refl;
+  many_words = refl;
+  tuple_of_contents = refl;
+  text_among_contents = refl;
+  first_placed = refl;
+  first_named = refl;
+  as_many_contents = refl;
+  many_contents = refl;
+  many_contents_first = refl;
+  no_room = refl;
+}
+
+pub returns-clause-ports : goal.returns-clause-ports
+unfolding bounds_of is_wrong_count fold_at circuit_of term_at make_expr make_signal int_of text_of object_made name_fits one_more within mention new_domain put_expr address_bits_from extent_of keep_port mention_some pin_made port_made port_with_pins write_pins_made keep_owner new_signal put_signal bound_to identifier_of method_called arguments_looked_at call_looked_at get_port_called mode_looked_at mode_of part_looked_at port_from integer_looked_at name_looked_at
+returns-clause-ports c = record {
+  plain = refl;
+  in_sys = refl;
+  by_place = refl;
+  in_pix = refl;
+  by_name = refl;
+  at_once = refl;
+  at_once_writing = refl;
+  no_domain_of_this_name = refl;
+  whole_word = refl;
+  bits = refl;
+  no_divisor = refl;
+  past_the_word = refl;
+  below_zero = refl;
+  text_of_bits = refl;
+  no_mode = refl;
+  another_builtin = refl;
+  text_for_a_flag = refl;
+  integer_as_domain = refl;
+  no_such_name = refl;
+  bits_first = refl;
+  mode_first = refl;
 }

@@ -14,13 +14,14 @@ use Rattle.lx_paths.specs.Paths.{modules_around}
 use Rattle.lx_describe.specs.Apart.{bits_from, states_apart}
 use Rattle.lx_describe.specs.Describing.{described, outline_of, plain_top, top_ios, top_of}
 use Rattle.lx_describe.specs.Fsms.{all_fsms, decl_at, fsm_made, fsms_made}
+use Rattle.lx_describe.specs.Memories.{with_paths}
 use Rattle.lx_describe.specs.Order.{all_ordered, ordered}
 use Rattle.lx_describe.specs.Signals.{named_signals}
 use Rattle.lx_describe.specs.Submodules.{all_bound, each_once}
 use Rattle.lx_describe.proofs.worked.descriptions_are_worked.Goals as goal
 
 pub returns : goal.returns
-unfolding make_signal make_stmt list_of put_stmt ios_of signal_of signals_of put_signal domain_made domains_made some_reset all_comb all_sync all_under fragments_of lay_parts under lay lay_all statement_at modules_around described outline_of plain_top top_ios top_of all_ordered ordered named_signals all_bound each_once bits_from states_apart all_fsms decl_at fsm_made fsms_made place_among put_fsm_stmt text_at act act_all act_next state_of states_of digits
+unfolding make_signal make_stmt list_of put_stmt ios_of signal_of signals_of put_signal domain_made domains_made some_reset all_comb all_sync all_under fragments_of lay_parts under lay lay_all statement_at modules_around described outline_of plain_top top_ios top_of all_ordered ordered named_signals all_bound each_once bits_from states_apart all_fsms decl_at fsm_made fsms_made place_among put_fsm_stmt text_at act act_all act_next state_of states_of digits with_paths
 returns c = record {
   submodules_once = refl;
   order = refl;
@@ -33,6 +34,8 @@ returns c = record {
   fsm_nowhere = refl;
   state_named = refl;
   state_assigned = refl;
+  memories = refl;
+  read_without_a_port = refl;
   no_states = refl;
   two_states = refl;
   three_states = refl;

@@ -142,3 +142,23 @@ returns-clause-states c = record {
   added_without = refl;
   as_special = refl;
 }
+
+pub returns-clause-memories : goal.returns-clause-memories
+unfolding add_at add_modules all_hanging all_of attribute attribute_of list_hanging module_attribute bind_at only set_attribute add_bound bind_attribute declare_bound change_module name_fits within bind_items bind_list bind_name bind_value bind_within mark name_object
+returns-clause-memories c = record {
+  get_port = refl;
+  no_width = refl;
+  address = refl;
+  read = refl;
+  written = refl;
+  parts_written = refl;
+  no_enable = refl;
+  reader = refl;
+  reader_writes = refl;
+  reader_enables = refl;
+  not_bound = refl;
+  memory_bound = refl;
+  port_bound = refl;
+  both_added = refl;
+  memory_as_module = refl;
+}

@@ -21,4 +21,7 @@ returns c = record {
   part = refl;
   nothing = refl;
   of_fsms = refl;
+  memory = refl;
+  unnamed_memory = refl;
+  of_ports = refl;
 }

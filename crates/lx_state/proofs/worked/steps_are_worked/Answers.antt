@@ -19,6 +19,7 @@ returns c = record {
   sixty_four_levels = refl;
   too_deep = refl;
   one_kind = refl;
+  memories_beside_crossings = refl;
   another_kind = refl;
   two_kinds = refl;
   two_kinds_more = refl;
