@@ -20,7 +20,7 @@ pub given_only : (taken : List Name) (w : Wish) → w.only ≡ true → given ta
 unfolding given
 given_only taken w e = ap (λ t. cond t w.name (free_name taken w.name)) e
 
-given_free : (taken : List Name) (w : Wish) → w.only ≡ false → given taken w ≡ free_name taken w.name
+pub given_free : (taken : List Name) (w : Wish) → w.only ≡ false → given taken w ≡ free_name taken w.name
 unfolding given
 given_free taken w e = ap (λ t. cond t w.name (free_name taken w.name)) e
 

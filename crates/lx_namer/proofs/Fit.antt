@@ -52,7 +52,7 @@ each_name P d can new signal memory port =
 
 -- ---- their count
 
-given_long : (taken : List Name) (ws : List Wish) → length (all_given taken ws) ≡ length ws
+pub given_long : (taken : List Name) (ws : List Wish) → length (all_given taken ws) ≡ length ws
 unfolding all_given
 given_long taken [] = refl
 given_long taken (w ∷ ws) = ap suc (given_long (taken ++ given taken w ∷ []) ws)

@@ -6,5 +6,6 @@ pub mod Joining
 pub mod Marked
 pub mod Ports
 pub mod Spelling
+pub mod Staying
 pub mod Table
 pub mod Wishes

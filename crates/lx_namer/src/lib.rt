@@ -2,6 +2,7 @@
 #![tactic(auto)]
 
 pub mod base;
+pub mod laws;
 mod marks;
 pub mod names;
 pub mod nets;

@@ -6,7 +6,6 @@ use Rattle.lx_grammar.specs.Derives.{Tree, IsTreeOf}
 use Rattle.lx_grammar.specs.Signs.{item_of}
 use Rattle.lx_grammar.proofs.Guided.{one_tree}
 use Rattle.lx_syntax.specs.Classes.{classes}
-use Rattle.lx_description.specs.PlainModule.{is_plain}
 use Rattle.lx_description.specs.declared.description.Description.{Description}
 use Rattle.lx_elab.specs.Elaboration.{elaborated}
 use Rattle.lx_translate.proofs.Alike.{fault_too}
@@ -17,8 +16,9 @@ use Rattle.lx_command.specs.Lines.{not_built}
 use Rattle.lx_translate.specs.Translation.{HasFault}
 use Rattle.lx_top.specs.Meaning.{Says, IsBuilt, IsRefusedFor, Meaning, Built}
 use Rattle.lx_command.specs.Next.{Next, Then, SameNext}
+use Rattle.lx_top.specs.Modules.{is_module}
 use Rattle.lx_top.specs.Table.{IsOneAnswerLaw}
-use Rattle.lx_top.proofs.Flat.{flat_alike, plain_alike}
+use Rattle.lx_top.proofs.Flat.{flat_alike, module_alike}
 
 -- a text has one tree
 same_tree : (bytes : List ℕ) (t u : Tree) → HasTree bytes t → HasTree bytes u → t ≡ u
@@ -44,8 +44,8 @@ says_one bytes r s p q =
 not_refused : (d : Description) (f : Fault) → IsBuilt d → IsRefusedFor d f → ⊥
 not_refused d f b r = by r.2
   where
-    by : ((is_plain r.0 ≡ false) × (f ≡ not_built)) ⊎ ((is_plain r.0 ≡ true) × HasFault r.0.design f) → ⊥
-    by (inl x) = let bad : true ≡ false = sym b.2 ∙ plain_alike d b.0 r.0 b.1 r.1 ∙ x.0 in absurd cc
+    by : ((is_module r.0 ≡ false) × (f ≡ not_built)) ⊎ ((is_module r.0 ≡ true) × HasFault r.0.design f) → ⊥
+    by (inl x) = let bad : true ≡ false = sym b.2 ∙ module_alike d b.0 r.0 b.1 r.1 ∙ x.0 in absurd cc
     by (inr x) = no_fault_of b.0.design f b.3 (fault_too r.0.design b.0.design f (flat_alike d r.0 b.0 r.1 b.1) x.1)
 
 -- bytes that mean a description have no fault

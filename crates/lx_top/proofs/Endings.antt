@@ -22,7 +22,6 @@ use Rattle.lx_pytree.specs.declared.tree.Tree.{Tree}
 use Rattle.lx_pytree.specs.Reading.{tree_of}
 use Rattle.lx_syntax.specs.Classes.{classes}
 use Rattle.lx_description.specs.declared.description.Description.{Description}
-use Rattle.lx_description.specs.PlainModule.{is_plain}
 use Rattle.lx_fsm.specs.Flattened.{IsWithout}
 use Rattle.lx_describe.specs.Answers.{Answers}
 use Rattle.lx_elab.specs.Elaboration.{elaborated}
@@ -31,6 +30,7 @@ use Rattle.lx_top.specs.Meaning.{Says, Meaning, Built}
 use Rattle.lx_top.specs.Table.{Step}
 use Rattle.lx_top.specs.Outcome.{Comes, EndsBy}
 use Rattle.lx_top.specs.Making.{Builds, Describes, DescribesFile, Flattened, Makes}
+use Rattle.lx_top.specs.Modules.{is_module}
 use Rattle.lx_top.proofs.Flat.{same_top}
 
 -- a build wants its description
@@ -113,15 +113,15 @@ described bytes t d (Ok x) has a b = (d, (says_of bytes t (Ok d) has a, b.0), b.
 described bytes t d (Err (refusal.Fault f)) has a b = inr (inr (d, says_of bytes t (Ok d) has a, b))
 described bytes t d (Err refusal.NoMemory) has a b = tt
 
-pub built_from : (d e : Description) (made : List ℕ) (t : Texts) → is_plain e ≡ true → IsWithout d e → Translates e.design (Ok made) → t.files ≡ build_files made → t.text ≡ summary_text e.top → Builds d (Ok t)
-built_from d e made t plain w is same said = ((e, w, plain, is.0), (t.files, (e, w, (made, is.1, same)), ap (Gives t.files) (said ∙ ap summary_text (same_top d e w))))
+pub built_from : (d e : Description) (made : List ℕ) (t : Texts) → is_module e ≡ true → IsWithout d e → Translates e.design (Ok made) → t.files ≡ build_files made → t.text ≡ summary_text e.top → Builds d (Ok t)
+built_from d e made t fit w is same said = ((e, w, fit, is.0), (t.files, (e, w, (made, is.1, same)), ap (Gives t.files) (said ∙ ap summary_text (same_top d e w))))
 
-pub not_translated : (d e : Description) (r : Refusal) → is_plain e ≡ true → IsWithout d e → Translates e.design (Err r) → Builds d (Err r)
-not_translated d e (refusal.Fault f) plain w is = (e, w, inr (plain, is))
-not_translated d e refusal.NoMemory plain w is = tt
+pub not_translated : (d e : Description) (r : Refusal) → is_module e ≡ true → IsWithout d e → Translates e.design (Err r) → Builds d (Err r)
+not_translated d e (refusal.Fault f) fit w is = (e, w, inr (fit, is))
+not_translated d e refusal.NoMemory fit w is = tt
 
-pub not_plain : (d e : Description) → is_plain e ≡ false → IsWithout d e → Builds d (Err (refusal.Fault not_built))
-not_plain d e plain w = (e, w, inl (plain, refl))
+pub no_module : (d e : Description) → is_module e ≡ false → IsWithout d e → Builds d (Err (refusal.Fault not_built))
+no_module d e other w = (e, w, inl (other, refl))
 
 pub not_flat : (d : Description) (r : Refusal) → Flattened d (Err r) → Builds d (Err r)
 not_flat d (refusal.Fault f) h = absurd h

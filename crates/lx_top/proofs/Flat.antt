@@ -1,5 +1,5 @@
 -- A description without its FSMs: how it is had, and that all such are alike.
-use Rattle.std.proofs.Common.{◌≡◌, ℕ, ◌+◌, Bool, true, false, List, [], ◌∷◌, Option, Some, None, Result, Ok, Err, ◌&&◌, not, map, refl, sym, ap, ◌∙◌}
+use Rattle.std.proofs.Common.{◌≡◌, ℕ, ◌+◌, Bool, true, false, List, [], ◌∷◌, Some, None, Result, Ok, Err, ◌&&◌, not, map, refl, sym, ap, ◌∙◌}
 use Rattle.lx_text.specs.declared.faults.Fault.{Fault}
 use Rattle.lx_text.specs.declared.faults.Refusal.{Refusal}
 use Rattle.lx_text.specs.declared.faults.Refusal.TheVariants as refusal
@@ -17,8 +17,8 @@ use Rattle.lx_fhdl.specs.declared.design.Signal.{Signal}
 use Rattle.lx_fhdl.specs.declared.exprs.SigId.{SigId}
 use Rattle.std.specs.List.{list_all}
 use Rattle.lx_description.specs.declared.fsms.FsmDecl.{FsmDecl}
-use Rattle.lx_description.specs.PlainModule.{is_nothing, is_plain}
-use Rattle.lx_description.proofs.PlainModule.{plain_is}
+use Rattle.lx_description.specs.Instance.{and_design, system}
+use Rattle.lx_description.specs.PlainModule.{is_nothing}
 use Rattle.lx_description.specs.declared.description.Description.{Description}
 use Rattle.lx_fsm.specs.Flattened.{Flattens, IsFlat, IsWithout, fsm_faults}
 use Rattle.lx_fsm_kept.specs.Stand.{fsms_stand}
@@ -27,6 +27,7 @@ use Rattle.lx_elab.specs.Fsms.{unless}
 use Rattle.lx_syntax.specs.Ast as ast
 use Rattle.lx_translate.specs.Translation.{AreAlike}
 use Rattle.lx_top.specs.Making.{Flattened}
+use Rattle.lx_top.specs.Modules.{AreBuilt, is_module}
 
 -- ---- what elaboration answers has no FSM with a fault
 
@@ -54,9 +55,6 @@ flat_made d (Err refusal.NoMemory) none h = tt
 
 pub flat_keeps : (d e : Description) → IsWithout d e → Keeps e.design
 flat_keeps d e w = w.keeps
-
-pub no_ports : (e : Description) → is_plain e ≡ true → e.design.ports ≡ []
-no_ports e plain = (plain_is e plain).ports
 
 pub same_top : (d e : Description) → IsWithout d e → e.top ≡ d.top
 same_top d e w = ap (λ (x : Description). x.top) w.rest
@@ -105,20 +103,18 @@ flats_alike d a b p q =
 pub flat_alike : (d a b : Description) → IsWithout d a → IsWithout d b → AreAlike a.design b.design
 flat_alike d a b p q = flats_alike d a.design b.design p.flat q.flat
 
--- whether one is a plain module hangs on what they have alike
-abbrev plain_of : Description → List Memory → List Port → List Signal → Bool
-plain_of d ms ps ss =
-    (not d.soc && (is_nothing {T = FsmDecl} [] && is_nothing d.slaves))
-    && ((is_nothing ms && is_nothing ps) && list_all (λ (s : Signal). not (is_nothing s.path)) ss)
+-- whether one is a module hangs on what they have alike
+abbrev module_of : Description → List Signal → Bool
+module_of d ss = (not d.soc && (is_nothing {T = FsmDecl} [] && is_nothing d.slaves)) && list_all (λ (s : Signal). not (is_nothing s.path)) ss
 
-plain_is_of : (d e : Description) → IsWithout d e → is_plain e ≡ plain_of d e.design.memories e.design.ports e.design.signals
-plain_is_of d e w = ap is_plain w.rest
+module_is : (d e : Description) → IsWithout d e → is_module e ≡ module_of d e.design.signals
+module_is d e w = ap is_module w.rest
 
-pub plain_alike : (d a b : Description) → IsWithout d a → IsWithout d b → is_plain a ≡ is_plain b
-plain_alike d a b p q =
-    let same = flat_alike d a b p q in
-    plain_is_of d a p
-    ∙ ap (λ (ms : List Memory). plain_of d ms a.design.ports a.design.signals) same.memories
-    ∙ ap (λ (ps : List Port). plain_of d b.design.memories ps a.design.signals) same.ports
-    ∙ ap (λ (ss : List Signal). plain_of d b.design.memories b.design.ports ss) same.signals
-    ∙ sym (plain_is_of d b q)
+pub module_alike : (d a b : Description) → IsWithout d a → IsWithout d b → is_module a ≡ is_module b
+module_alike d a b p q = module_is d a p ∙ ap (λ (ss : List Signal). module_of d ss) (flat_alike d a b p q).signals ∙ sym (module_is d b q)
+
+-- ---- rows
+
+pub module_rows : AreBuilt
+unfolding and_design system
+module_rows = record { circuit = refl; memory = refl; system = refl; slave = refl; no_path = refl }

@@ -5,13 +5,13 @@ use Rattle.lx_text.specs.declared.faults.Fault.{Fault}
 use Rattle.lx_grammar.specs.Derives.{Tree}
 use Rattle.lx_syntax.specs.Classes.{classes}
 use Rattle.lx_description.specs.declared.description.Description.{Description}
-use Rattle.lx_description.specs.PlainModule.{is_plain}
 use Rattle.lx_fsm.specs.Flattened.{IsWithout}
 use Rattle.lx_elab.specs.Elaboration.{elaborated}
 use Rattle.lx_translate.specs.Translation.{IsFaultless, HasFault, IsTextOf}
 use Rattle.lx_command.specs.Judging.{HasTree, HasTextFault}
 use Rattle.lx_command.specs.Lines.{build_files, summary_text, not_built}
 use Rattle.lx_command.specs.Next.{Next, Gives}
+use Rattle.lx_top.specs.Modules.{is_module}
 
 -- the classes of the text's tree come to this description, or to this fault
 pub record Says (bytes : List ℕ) (r : Result Description Fault) : Type 0 where
@@ -19,13 +19,13 @@ pub record Says (bytes : List ℕ) (r : Result Description Fault) : Type 0 where
   pub has : HasTree bytes tree
   pub says : elaborated (classes bytes tree) ≡ r
 
--- a description that is built: with the statements of its FSMs in its circuit it is a plain module without a fault
+-- a description that is built: with the statements of its FSMs in its circuit it is a module without a fault
 abbrev pub IsBuilt : Description → Type 0
-IsBuilt d = (e : Description) × IsWithout d e × (is_plain e ≡ true) × IsFaultless e.design
+IsBuilt d = (e : Description) × IsWithout d e × (is_module e ≡ true) × IsFaultless e.design
 
--- one that isn't: it is more than a plain module then, or its circuit has this fault
+-- one that isn't: it is more than a module then, or its circuit has this fault
 abbrev pub IsRefusedFor : Description → Fault → Type 0
-IsRefusedFor d f = (e : Description) × IsWithout d e × (((is_plain e ≡ false) × (f ≡ not_built)) ⊎ ((is_plain e ≡ true) × HasFault e.design f))
+IsRefusedFor d f = (e : Description) × IsWithout d e × (((is_module e ≡ false) × (f ≡ not_built)) ⊎ ((is_module e ≡ true) × HasFault e.design f))
 
 -- the bytes mean this description, or this is their first fault: of the text, of what it describes, of its circuit
 abbrev pub Meaning : List ℕ → Result Description Fault → Type 0

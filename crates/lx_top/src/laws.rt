@@ -1,6 +1,7 @@
 //! What holds of every run.
 
 ghost use Rattle.lx_top.specs.Completeness.{IsCompletenessLaw, IsGivingLaw};
+ghost use Rattle.lx_top.specs.Modules.{AreBuilt};
 ghost use Rattle.lx_top.specs.Table.{IsOneAnswerLaw};
 
 /// Where the words are a command that comes to no fault and lacks no file, and no call failed, a run is done or out of
@@ -17,4 +18,9 @@ pub fn one_answer_law()
 /// A command that comes to give, over files that are told, comes to no fault, and lacks no file.
 pub fn giving_law()
     ensures { IsGivingLaw }
+{}
+
+/// Which descriptions are built, worked by hand.
+pub fn modules_are_worked()
+    ensures { AreBuilt }
 {}

@@ -4,6 +4,7 @@
 pub mod entry;
 pub mod laws;
 pub mod making;
+pub mod modules;
 pub mod run;
 
 pub use entry::program;

@@ -8,11 +8,12 @@ ghost use Rattle.lx_command.specs.Next.{Refuses};
 ghost use Rattle.lx_top.specs.Making.{Builds, Describes, DescribesFile, Flattened, Makes};
 ghost use Rattle.lx_top.specs.Table.{Step};
 
+use crate::modules::is_module;
 use lx_command::commands::Command;
 use lx_command::fetching::{Stop, fetch, not_built, whole};
 use lx_command::judging::judge;
 use lx_command::texts::{Texts, files_of, summary_of};
-use lx_description::{Description, is_plain};
+use lx_description::Description;
 use lx_elab::elaborate;
 use lx_fsm::without_fsms;
 use lx_outside::Source;
@@ -83,14 +84,14 @@ fn flat_of(alloc: Global, description: Description) -> Result<Description, Refus
 }
 
 // The texts of a description; or the fault of its circuit, or that its parts are not built yet.
-#[tactic(auto, using(crate::proofs::Flat::flat_keeps, crate::proofs::Flat::no_ports, crate::proofs::Endings::built_from, crate::proofs::Endings::not_translated, crate::proofs::Endings::not_plain, crate::proofs::Endings::not_flat))]
+#[tactic(auto, using(crate::proofs::Flat::flat_keeps, crate::proofs::Endings::built_from, crate::proofs::Endings::not_translated, crate::proofs::Endings::no_module, crate::proofs::Endings::not_flat))]
 fn texts_of(alloc: Global, description: Description) -> Result<Texts, Refusal>
     requires can { CanFlatten description }
     requires faultless { fsm_faults description ≡ [] }
     ensures { Builds description result }
 {
     let flat = flat_of(alloc, description)?;
-    if !is_plain(&flat) {
+    if !is_module(&flat) {
         return Err(Refusal::Fault(whole(Kind::NotYetBuilt)));
     }
     let text = top_v(alloc, &flat.design)?;

@@ -1,6 +1,6 @@
 -- Two designs of one circuit, whose statements have the same lines, have the same faults.
 use Rattle.std.proofs.Common.{◌≡◌, ℕ, Bool, true, ◌||◌, List, [], ◌∷◌, ◌++◌, Option, Some, None, Result, length, codes, map, refl, sym, ap, subst, ◌∙◌, inl, inr, if◌then◌else◌}
-use Rattle.std.specs.List.{filter, find, flat_map, range_with_len}
+use Rattle.std.specs.List.{find, flat_map, range_with_len}
 use Rattle.std.specs.Option.{is_some, option_and_then, option_map, option_or}
 use Rattle.std.specs.Prelude.{slice_get}
 use Rattle.lx_text.specs.declared.faults.Fault.{Fault}
@@ -21,12 +21,13 @@ use Rattle.lx_emission.specs.Emission.{is_port}
 use Rattle.lx_emission.specs.Naming.{clock_name, is_among}
 use Rattle.lx_graph.specs.Cycle.{IsTold}
 use Rattle.lx_reads.specs.Drivings.{Driving, drivings, first_driving}
+use Rattle.lx_memory.specs.Alone.{are_alone, shows_alone}
 use Rattle.lx_check.specs.Checked.{IsSound, HasCheckFault}
 use Rattle.lx_check.specs.Faults.{any_driving, fault, first_fault, first_of, is_described, is_reader, memory_fault, name_of, second_driving, writings}
 use Rattle.lx_check.specs.Loops.{IsLoopFault, line_of, loop_fault}
 use Rattle.lx_namer.specs.Names as names
 use Rattle.lx_namer.specs.Names.{Wish, all_given, memory_path, memory_wish, name_or_place, has_no_path, names_of, own_memory_name, own_name, port_fault, reserved, signal_path, signal_wish, unless}
-use Rattle.lx_translate.specs.Translation.{AreAlike, IsFaultless, HasFault}
+use Rattle.lx_translate.specs.Translation.{AreAlike, HasFault, IsNotBuilt}
 
 -- ---- drivers and memories, from what is alike
 
@@ -161,8 +162,24 @@ same_names a b h =
     ∙ ap (λ (ms : List Memory). names_from (circuit_of b) b.signals b.ios b.domains ms) h.memories
     ∙ sym (names_is b)
 
+-- ---- what ports show
+
+same_alone : (a b : Design) → AreAlike a b → shows_alone a ≡ shows_alone b
+unfolding shows_alone
+same_alone a b h = ap (λ (ps : List Port). are_alone ps (drivings a)) h.ports ∙ ap (λ (all : List Driving). are_alone b.ports all) h.drivings
+
+not_built_too : (a b : Design) (f : Fault) → AreAlike a b → IsNotBuilt a f → IsNotBuilt b f
+not_built_too a b f h e = record {
+  sound = sound_too a b h e.sound;
+  names = e.names;
+  named = sym (same_names a b h) ∙ e.named;
+  shared = sym (same_alone a b h) ∙ e.shared;
+  fault = e.fault;
+}
+
 -- ---- the law
 
 pub fault_too : (a b : Design) (f : Fault) → AreAlike a b → HasFault a f → HasFault b f
 fault_too a b f h (inl e) = inl (check_too a b f h e)
-fault_too a b f h (inr e) = inr (sound_too a b h e.0, sym (same_names a b h) ∙ e.1)
+fault_too a b f h (inr (inl e)) = inr (inl (sound_too a b h e.0, sym (same_names a b h) ∙ e.1))
+fault_too a b f h (inr (inr e)) = inr (inr (not_built_too a b f h e))
