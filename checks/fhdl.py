@@ -431,6 +431,62 @@ class MultiReg:
         Module.crossings.append(("comb", o.eq(regs[-1] if regs else i)))
 
 
+WRITE_FIRST, READ_FIRST, NO_CHANGE = "WRITE_FIRST", "READ_FIRST", "NO_CHANGE"
+
+
+class Memory:
+    """Words that ports read and write."""
+
+    def __init__(self, width, depth, init=()):
+        self.width, self.depth = width, depth
+        self.first = [v % (1 << width) for v in init] + [0] * (depth - len(init))
+
+    def get_port(self, *given, **named):
+        return Port(self, *given, **named)
+
+
+class Port:
+    all = []
+
+    def __init__(self, memory, write_capable=False, async_read=False, we_granularity=0, mode=WRITE_FIRST, clock_domain="sys"):
+        self.memory, self.mode, self.is_now = memory, mode, bool(async_read)
+        self.part = we_granularity or memory.width
+        self.adr, self.dat_r = Signal(bits_for(memory.depth - 1)), Signal(memory.width)
+        if write_capable:
+            self.dat_w, self.we = Signal(memory.width), Signal(memory.width // self.part)
+        self.domain = clock_domain if write_capable or not async_read else None
+        if self.domain is not None:
+            mention(self.domain)
+        Port.all.append(self)
+
+    def writes(self):
+        return hasattr(self, "we")
+
+    def shown(self, values, words, kept):
+        """What it reads, of words that stand now, and by what it kept."""
+        if self.is_now or self.mode == WRITE_FIRST:
+            at = values[self.adr] if self.is_now else kept
+            return words[at] if at < len(words) else 0
+        return kept
+
+    def keeps(self, values, words, kept):
+        """What it keeps from a clock edge on, of values and words before it."""
+        if self.mode == WRITE_FIRST:
+            return values[self.adr]
+        if self.mode == NO_CHANGE and self.writes() and values[self.we]:
+            return kept
+        return words[values[self.adr]] if values[self.adr] < len(words) else 0
+
+    def write(self, values, words):
+        """Writes the parts that `we` marks."""
+        at = values[self.adr]
+        if self.writes() and at < len(words):
+            for k in range(self.we.bits):
+                if values[self.we] >> k & 1:
+                    mask = (1 << self.part) - 1 << k * self.part
+                    words[at] = words[at] & ~mask | values[self.dat_w] & mask
+
+
 def mention(domain):
     if domain not in Module.mentioned:
         Module.mentioned.append(domain)
@@ -513,15 +569,15 @@ def log2_int(n):
 NAMES = {
     x.__name__: x
     for x in (
-        Signal, Constant, Cat, Replicate, Mux, Array, If, Case, FSM, NextState, NextValue, ClockDomain, MultiReg,
+        Signal, Constant, Cat, Replicate, Mux, Array, If, Case, FSM, NextState, NextValue, Memory, ClockDomain, MultiReg,
         Module, LiteXModule, AutoCSR, bits_for, log2_int,
     )
-} | {"C": Constant}
+} | {"C": Constant, "WRITE_FIRST": WRITE_FIRST, "READ_FIRST": READ_FIRST, "NO_CHANGE": NO_CHANGE}
 
 
 def top_of(text):
     """The module of the last class of a description."""
-    Signal.all, Module.mentioned, Module.declared, Module.crossings = [], [], {}, []
+    Signal.all, Port.all, Module.mentioned, Module.declared, Module.crossings = [], [], [], {}, []
     lines = ["" if line.startswith(("from ", "import ")) else line for line in text.split("\n")]
     names = dict(NAMES)
     exec("\n".join(lines), names)
@@ -539,6 +595,10 @@ class Run:
         self.domains = Module.mentioned
         self.resets = [d for d in self.domains if Module.declared.get(d, True)]
         self.driver = {x: name for name, s in self.statements for x in s.driven()}
+        self.ports = Port.all
+        self.driver |= {p.dat_r: "(memory)" for p in self.ports}
+        self.words = {p.memory: list(p.memory.first) for p in self.ports}
+        self.kept = dict.fromkeys(self.ports, 0)
         self.inputs = {x: None for x in self.ios if x not in self.driver}
         self.values = {x: 0 if x in self.inputs else x.reset for x in Signal.all}
         self.settle()
@@ -557,6 +617,7 @@ class Run:
         for _ in range(len(self.values) + 1):
             resets = {x: x.reset for x, name in self.driver.items() if name == "comb"}
             after = self.laid("comb", self.values | resets)
+            after |= {p.dat_r: p.shown(self.values, self.words[p.memory], self.kept[p]) for p in self.ports}
             if after == self.values:
                 return
             self.values = after
@@ -570,5 +631,9 @@ class Run:
             for x, driver in self.driver.items():
                 if driver == name:
                     after[x] = x.reset if name in reset and not x.reset_less else laid[x]
+        active = [p for p in self.ports if p.domain in risen]
+        self.kept |= {p: p.keeps(self.values, self.words[p.memory], self.kept[p]) for p in active}
+        for p in active:
+            p.write(self.values, self.words[p.memory])
         self.values = after
         self.settle()

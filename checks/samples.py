@@ -1,6 +1,7 @@
 """Random descriptions of lawful circuits, for checks/descriptions: expressions and statements of each form, over signals
 of few and of many bits, in `comb` and in two clock domains, declared or not, with values that cross into them. All
-signals are ports but for the registers of crossings and the numbers of states, so that all of these are compared.
+signals are ports but for the registers of crossings and the numbers of states, so that all of these are compared. Some
+have a state machine, others memories.
 """
 import random
 
@@ -14,8 +15,8 @@ MOST = 127
 class Sample:
     """One description: its signals, and texts of expressions that are known to have a lawful shape."""
 
-    def __init__(self, seed, has_machine=False):
-        self.chance, self.has_machine = random.Random(seed), has_machine
+    def __init__(self, seed, kind):
+        self.chance, self.has_machine, self.has_memory = random.Random(seed), kind == "--machines", kind == "--memories"
         self.shapes = {}
         self.signals = {}
 
@@ -153,6 +154,50 @@ class Sample:
         add = self.chance.choice(["", "self.specials += ", f"self.specials.{name}_crossing = ", f"self.{name}_crossing = "])
         return f"{add}MultiReg({source}, self.{name}{rest})"
 
+    # ---- memories
+
+    def memory(self, name):
+        """A memory of few words, with contents of any size for some of them."""
+        bits, depth = self.chance.choice(WIDTHS), self.chance.choice([1, 2, 3, 4, 5, 8, 11, 16])
+        contents = [self.chance.choice([self.chance.getrandbits(bits), -1, 300]) for _ in range(self.chance.randint(0, depth))]
+        given = self.chance.choice([f", {contents}", f", init={contents}"]) if contents or self.chance.random() < 0.5 else ""
+        return bits, depth, f"self.{name} = Memory({bits}, {depth}{given})"
+
+    def port(self, name, memory, bits, depth, domain):
+        """A port that reads in any domain and may write in this one, and the names and widths of its signals."""
+        part = self.chance.choice([0] + [n for n in range(1, bits + 1) if bits % n == 0])
+        writes, now = self.chance.random() < 0.6, self.chance.random() < 0.3
+        words = ["write_capable=True"] * writes + ["async_read=True"] * now
+        words += [f"we_granularity={part}"] * (self.chance.random() < 0.7 and writes)
+        words += [f"mode={self.chance.choice(['WRITE_FIRST', 'READ_FIRST', 'NO_CHANGE'])}"] * (self.chance.random() < 0.8)
+        domain = domain if writes else self.chance.choice(["sys", "fast"])
+        words += [f'clock_domain="{domain}"'] * (domain != "sys" or self.chance.random() < 0.3)
+        count = bits // part if part and any("we_gran" in word for word in words) else 1
+        parts = [("adr", fhdl.bits_for(depth - 1)), ("dat_r", bits)] + [("dat_w", bits), ("we", count)] * writes
+        return f"self.{name} = self.{memory}.get_port({', '.join(words)})", {f"{name}.{part}": width for part, width in parts}
+
+    def memories(self, known):
+        """The lines of some memories and their ports, which values drive or nothing does; and the names of the signals."""
+        names = []
+        for m in range(self.chance.randint(1, 2)):
+            bits, depth, line = self.memory(f"mem{m}")
+            yield line
+            domain = self.chance.choice(["sys", "fast"])
+            for k in range(self.chance.randint(1, 3)):
+                line, parts = self.port(f"p{m}{k}", f"mem{m}", bits, depth, domain)
+                yield line
+                yield from self.chance.choice([[], [f"self.specials += self.p{m}{k}"], [f"self.specials.q{m}{k} = self.p{m}{k}"]])
+                inner = names + list(known)
+                for part, width in parts.items():
+                    own = part.replace(".", "_")
+                    self.signals[own] = fhdl.Signal(width)
+                    yield f"self.{own} = self.{part}"
+                    names.append(own)
+                    if not own.endswith("dat_r") and self.chance.random() < 0.4:
+                        where = "sync" if domain == "sys" else f"sync.{domain}"
+                        yield f"self.{self.chance.choice(['comb', where])} += self.{own}.eq({self.expr(inner, 2)})"
+        self.stored = names
+
     # ---- state machines
 
     def machine(self, own, held, names):
@@ -192,7 +237,11 @@ class Sample:
             machine = list(self.asking(["a0"]))
             machine = list(self.machine(own, kept, known + ["a0"])) + machine
             lines, everything, known = lines + machine[:1] + machine[-1:] + machine[1:-1], everything + ["a0"], known + own + ["a0"]
+        if self.has_memory:
+            lines += self.memories(known)
+            known, everything = known + self.stored, everything + self.stored
         lines.append(f"self.ios = [{', '.join(f'self.{name}' for name in everything)}]")
+        first = len(lines)
         for group in groups:
             lines += [f"self.comb += {self.block(group, known)}" for _ in range(self.chance.randint(1, 3))]
             known = known + group
@@ -200,9 +249,9 @@ class Sample:
             part = "sync" if domain == "sys" else f"sync.{domain}"
             lines += [f"self.{part} += {self.block(own, everything)}" for _ in range(self.chance.randint(1, 3)) if own]
         for line in [self.crossing(name, everything) for name in crossed] + [self.declaration(d) for d in held if self.chance.random() < 0.4]:
-            lines.insert(self.chance.randint(len(everything) + 1, len(lines)), line)
+            lines.insert(self.chance.randint(first, len(lines)), line)
         return "class R(Module):\n    def __init__(self):\n" + "".join(f"        {line}\n" for line in lines)
 
 
-def sample(seed, has_machine=False):
-    return Sample(seed, has_machine).text()
+def sample(seed, kind):
+    return Sample(seed, kind).text()

@@ -7,6 +7,7 @@ import re
 
 NAME = re.compile(r"[A-Za-z_][A-Za-z0-9_$]*")
 NUMBER = re.compile(r"0|[1-9][0-9]*")
+END = re.compile(r"end(?![A-Za-z0-9_$])")
 LITERAL = re.compile(r"([0-9]+)'(s?)d([0-9]+)")
 OPERATORS = ["<<<", ">>>", "<<", ">>", "<=", "==", "!=", ">=", "<", ">", "+", "-", "*", "&", "|", "^"]
 COMPARISONS = {"<", "<=", "==", "!=", ">", ">="}
@@ -122,7 +123,7 @@ class Reader:
         while True:
             if self.has(margin + "if ("):
                 body.append(self.branch(levels))
-            elif self.text.startswith(margin, self.at) and NAME.match(self.text, self.at + len(margin)) and not self.text.startswith(margin + "end", self.at):
+            elif self.text.startswith(margin, self.at) and NAME.match(self.text, self.at + len(margin)) and not END.match(self.text, self.at + len(margin)):
                 self.at += len(margin)
                 body.append(self.assignment())
             else:

@@ -1,3 +1,3 @@
 class A(Module):
     def __init__(self):
-        self.memory = Memory(8, 16)
+        self.register = CSRStorage(8)
