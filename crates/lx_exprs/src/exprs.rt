@@ -46,24 +46,40 @@ fn moved(places: &[ExprId], id: ExprId) -> ExprId
     places[id.place]
 }
 
+/// Expressions that have their new places.
+#[derive(Clone, Copy)]
+struct Placed<'a> {
+    places: &'a [ExprId],
+    ids: &'a [ExprId],
+    ghost below: { IsTrue (all_below (length places.now) ids.now) },
+}
+
+/// A node whose children have their new places.
+#[derive(Clone, Copy)]
+struct PlacedNode<'a> {
+    places: &'a [ExprId],
+    node: &'a Expr,
+    ghost below: { IsTrue (expr_below node.now (length places.now)) },
+}
+
 /// The new places of some expressions.
-fn moved_all(alloc: Global, places: &[ExprId], ids: &[ExprId]) -> Result<List<ExprId>, NoMemory>
-    requires { IsTrue (all_below (length places.now) ids.now) }
-    ensures { IfOk result (λ list. list ≡ map (moved_to places.now) ids.now) }
+fn moved_all(alloc: Global, parts: Placed) -> Result<List<ExprId>, NoMemory>
+    ensures { IfOk result (λ list. list ≡ map (moved_to parts.entry.places.now) parts.entry.ids.now) }
 {
+    let places = parts.places;
     let mut list = List::new(alloc);
-    for id in ids {
+    for id in parts.ids {
         list.push(moved(places, *id))?;
     }
     Ok(list)
 }
 
 /// The node with its children at their new places.
-fn moved_node(alloc: Global, places: &[ExprId], node: &Expr) -> Result<Expr, NoMemory>
-    requires { IsTrue (expr_below node.now (length places.now)) }
-    ensures { IfOk result (λ x. x ≡ moved_node places.now node.now) }
+fn moved_node(alloc: Global, of: PlacedNode) -> Result<Expr, NoMemory>
+    ensures { IfOk result (λ x. x ≡ moved_node of.entry.places.now of.entry.node.now) }
 {
-    Ok(match node {
+    let places = of.places;
+    Ok(match of.node {
         Expr::Const {
             value,
             bits,
@@ -88,11 +104,17 @@ fn moved_node(alloc: Global, places: &[ExprId], node: &Expr) -> Result<Expr, NoM
             yes: moved(places, *yes),
             no: moved(places, *no),
         },
-        Expr::Cat(parts) => Expr::Cat(moved_all(alloc, places, parts.as_slice())?),
-        Expr::Pick { items, index } => Expr::Pick {
-            items: moved_all(alloc, places, items.as_slice())?,
-            index: moved(places, *index),
-        },
+        Expr::Cat(parts) => {
+            let ids = parts.as_slice();
+            Expr::Cat(moved_all(alloc, Placed { places, ids })?)
+        }
+        Expr::Pick { items, index } => {
+            let ids = items.as_slice();
+            Expr::Pick {
+                items: moved_all(alloc, Placed { places, ids })?,
+                index: moved(places, *index),
+            }
+        }
         Expr::Replicate { of, count } => Expr::Replicate {
             of: moved(places, *of),
             count: *count,
@@ -246,7 +268,11 @@ fn lower_pick(alloc: Global, draft: &mut PlainDraft, node: PickIn) -> Result<Exp
     let source = node.source;
     let index = source.lowered(draft, node.index);
     let _design = source.design();
-    let items = moved_all(alloc, source.places(), node.items)?;
+    let parts = Placed {
+        places: source.places(),
+        ids: node.items,
+    };
+    let items = moved_all(alloc, parts)?;
     push_choices(draft, items.as_slice(), index)
 }
 
@@ -280,7 +306,8 @@ fn lower_expr(
             lower_pick(alloc, draft, node)
         }
         _ => {
-            let copy = moved_node(alloc, source.places(), node)?;
+            let places = source.places();
+            let copy = moved_node(alloc, PlacedNode { places, node })?;
             let _design = source.design();
             draft.keeps();
             let id = draft.push_expr(copy)?;

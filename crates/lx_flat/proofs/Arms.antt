@@ -140,6 +140,9 @@ no_key_there s on arms e = sym (key_found s on [] arms (λ key f. refl)) ∙ ap 
 pub fresh_none : (a : Shape) (arms : List Arm) → AreFresh a arms 0 []
 fresh_none a arms = record { long = refl; each = λ k l. absurd (omega arith) }
 
+pub fresh_as : {a b : Shape} {arms : List Arm} {n : ℕ} {fresh : List Bool} → a ≡ b → AreFresh a arms n fresh → AreFresh b arms n fresh
+fresh_as {arms = arms} {n = n} {fresh = fresh} e h = subst (λ (s : Shape). AreFresh s arms n fresh) e h
+
 key_is_at : (arms : List Arm) (k : ℕ) (z : Arm) → k < length arms → z ≡ get_or arms k z → key_at arms k ≡ z.key
 key_is_at arms k z l e = ap (λ (a : Arm). a.key) (get_or_default arms k (record { key = pos 0; body = [] }) z l ∙ sym e)
 

@@ -4,6 +4,7 @@ use Rattle.std.specs.Prelude.{cond, IsTrue}
 use Rattle.std.proofs.lemmas.Bool.{and_parts, ltb-true}
 use Rattle.std.proofs.lemmas.List.{append-nil, drop_all}
 use Rattle.lx_fhdl.specs.declared.exprs.Expr.{Expr}
+use Rattle.lx_num.specs.declared.Shape.{Shape}
 use Rattle.lx_circuit.specs.Shapes.{Shapes, shape_of}
 use Rattle.lx_circuit.specs.Statements as tree
 use Rattle.lx_circuit.specs.Statements.{Block, sum_bits, target_bits}
@@ -83,6 +84,10 @@ ready_shapes {r} {x} {y} h g = same_shapes r.design y (g.signals ∙ h.lowered.s
 -- an operand has its shape by the design's signals too
 pub own_shape_is : {r : Read} {d : Design} {a : List Own} {v : Operand} → IsReady r d a → HasShape d v → shape_of (shapes r.design) (term d v.id.place) ≡ v.shape
 own_shape_is {r} {d} {v = v} h s = ap (λ (u : Shapes). shape_of u (term d v.id.place)) (sym (ready_shapes h (grows_same d))) ∙ s.shape
+
+-- and an expression of the design, lowered, the shape that it has in the design
+pub own_shape_as : {r : Read} {d : Design} {a : List Own} {v : Operand} {t : Term} {s : Shape} → IsReady r d a → HasShape d v → term d v.id.place ≡ t → v.shape ≡ s → shape_of (shapes r.design) t ≡ s
+own_shape_as {r} h p e f = ap (shape_of (shapes r.design)) (sym e) ∙ own_shape_is h p ∙ f
 
 -- ---- a signal, or some of its bits
 

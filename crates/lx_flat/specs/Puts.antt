@@ -1,6 +1,5 @@
 -- What is put for targets and statements of the design that is read, as flat statements with their lines.
 use Rattle.std.specs.Prelude.{ℕ, Bool, true, List, [], None}
-use Rattle.lx_circuit.specs.Shapes.{shape_of}
 use Rattle.lx_circuit.specs.Statements as tree
 use Rattle.lx_circuit.specs.Terms.{Term}
 use Rattle.lx_fhdl.specs.Below.{StmtId, TargetId}
@@ -99,11 +98,11 @@ PutCase r old new a b on line arms rest =
     Put old new a b (flat_arms (shapes r.design) (lowered_at r.design on) [] None (arms_at (design.stmt r.design) arms) (flat_of r.design rest))
     (both_lines (arms_inside r.design true line arms) (lines_inside r.design (has_key (expr_shape r.design on) arms) line rest))
 
--- the arms alone, and the rest alone, by the expression at on of the draft
+-- the arms alone, and the rest alone, by the expression at on of the design
 abbrev pub PutArms : Read → Design → Design → List Own → List Own → (on line : ℕ) → List Arm → Type 0
-PutArms r old new a b on line arms = Put old new a b (arms_block (shapes r.design) (design.stmt r.design) (term old on) [] arms) (arms_inside r.design true line arms)
+PutArms r old new a b on line arms = Put old new a b (arms_block (shapes r.design) (design.stmt r.design) (lowered_at r.design on) [] arms) (arms_inside r.design true line arms)
 
 abbrev pub PutOtherwise : Read → Design → Design → List Own → List Own → (on line : ℕ) → List Arm → List StmtId → Type 0
 PutOtherwise r old new a b on line arms rest =
-    Put old new a b (otherwise (none_after (shapes r.design) (term old on) [] None arms) (flat_of r.design rest))
-    (lines_inside r.design (has_key (shape_of (shapes r.design) (term old on)) arms) line rest)
+    Put old new a b (otherwise (none_after (shapes r.design) (lowered_at r.design on) [] None arms) (flat_of r.design rest))
+    (lines_inside r.design (has_key (expr_shape r.design on) arms) line rest)

@@ -1,11 +1,11 @@
 //! The bits of a design's targets.
 
-ghost use Rattle.std.specs.Prelude.{◌≡◌, ◌≤◌};
+ghost use Rattle.std.specs.Prelude.{◌≡◌};
 ghost use Rattle.lx_circuit.specs.Statements.{target_bits, sum_bits, most_bits};
 ghost use Rattle.lx_fhdl.specs.Designs as designs;
 ghost use Rattle.lx_fhdl.specs.Stmts.{targets_at};
 
-use crate::sites::{TargetIn, TargetsIn};
+use crate::sites::{PartsIn, TargetIn, TargetsIn};
 use lx_fhdl::Target;
 
 /// The bits of a target; one with an index has those of its widest item.
@@ -18,7 +18,7 @@ pub(crate) fn target_bits(target: TargetIn) -> u8
     match source.target(target.id) {
         Target::Whole(x) => source.signal_bits(*x),
         Target::Part { len, .. } => *len,
-        Target::Cat(parts) => sum_of_bits(TargetsIn {
+        Target::Cat(parts) => sum_of_bits(PartsIn {
             source,
             ids: parts.as_slice(),
             bound,
@@ -33,8 +33,7 @@ pub(crate) fn target_bits(target: TargetIn) -> u8
 
 /// The bits of all parts together.
 #[cycle(bits)]
-fn sum_of_bits(parts: TargetsIn) -> u8
-    requires { sum_bits (designs.shapes parts.source.now.design) (targets_at (designs.target parts.source.now.design) parts.ids.now) ≤ 127 }
+fn sum_of_bits(parts: PartsIn) -> u8
     ensures { result ≡ sum_bits (designs.shapes parts.entry.source.now.design) (targets_at (designs.target parts.entry.source.now.design) parts.entry.ids.now) }
 {
     let source = parts.source;

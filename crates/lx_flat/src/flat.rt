@@ -1,25 +1,23 @@
 //! Flat statements: each assigns a signal or some of its bits, and each branch stands under its own condition.
 
-ghost use Rattle.std.specs.Prelude.{◌≡◌, ◌<◌, [], length, IfOk, OnOk, IsTrue};
+ghost use Rattle.std.specs.Prelude.{◌≡◌, ◌<◌, [], length, IfOk, OnOk};
 ghost use Rattle.lx_circuit.specs.Terms.{Binary};
-ghost use Rattle.lx_fhdl.specs.Below.{all_stmts_below};
 ghost use Rattle.lx_fhdl.specs.Designs.{shapes, term};
 ghost use Rattle.lx_plain.specs.Operands.{HasShape};
 ghost use Rattle.lx_plain.specs.Plain.{IsBit, TermPut};
 ghost use Rattle.lx_plain.specs.Tests.{asked};
-ghost use Rattle.lx_flat.specs.Puts.{PutArms, PutCase, PutChain, PutIf, PutOtherwise, PutStmt, PutStmts, PutWhen};
+ghost use Rattle.lx_flat.specs.Puts.{PutArms, PutCase, PutChain, PutIf, PutLone, PutOtherwise, PutStmt, PutStmts, PutWhen};
 ghost use Rattle.lx_flat.specs.Ready.{IsReady};
 
 use crate::assigns::put_assigns;
 use crate::keys::{Keyed, fresh_keys, push_key, push_no_keys};
-use crate::sites::{ArmsIn, BranchesIn, CaseIn, StmtIn, StmtsIn, TargetIn};
-use lx_fhdl::{ExprId, Stmt, StmtId};
+use crate::sites::{ArmsIn, BranchesIn, CaseIn, LoneIn, StmtIn, StmtsIn, TargetIn};
+use lx_fhdl::{ExprId, Stmt};
 use lx_plain::conds::{push_binary, push_test};
 use lx_plain::groups::put_under;
 use lx_plain::operands::{Operand, Test};
 use lx_plain::owned::Own;
 use lx_plain::plain::PlainDraft;
-use lx_plain::source::Source;
 use lx_tables::Op;
 use lx_text::{List, NoMemory};
 use std::alloc::Global;
@@ -41,23 +39,11 @@ fn push_and_test(
 }
 
 /// Adds the flat statements of some statements of the design, and gives them.
-pub fn flatten(
-    alloc: Global,
-    source: &Source,
-    draft: &mut PlainDraft,
-    ids: &[StmtId],
-) -> Result<List<Own>, NoMemory>
-    requires ready { IsReady source.now draft.old [] }
-    requires there { IsTrue (all_stmts_below (length source.now.design.stmts) ids.now) }
-    ensures { IfOk result (λ list. PutStmts source.now draft.old draft.new [] list ids.now) }
+pub fn flatten(alloc: Global, draft: &mut PlainDraft, stmts: StmtsIn) -> Result<List<Own>, NoMemory>
+    requires { IsReady stmts.source.now draft.old [] }
+    ensures { IfOk result (λ list. PutStmts stmts.entry.source.now draft.old draft.new [] list stmts.entry.ids.now) }
 {
     let mut out = List::new(alloc);
-    let bound = source.stmts();
-    let stmts = StmtsIn {
-        source: &*source,
-        ids,
-        bound,
-    };
     put_flat_block(alloc, draft, stmts, &mut out)?;
     Ok(out)
 }
@@ -184,10 +170,17 @@ fn put_if(
         };
         return put_flat_block(alloc, draft, rest, out);
     }
-    if branches.len() == 1 {
-        return put_lone(alloc, draft, node, out);
-    }
     let first = &branches[0];
+    if branches.len() == 1 {
+        let lone = LoneIn {
+            source,
+            branch: first,
+            rest: node.rest,
+            bound,
+            line: node.line,
+        };
+        return put_lone(alloc, draft, lone, out);
+    }
     let cond = source.lowered(draft, first.cond);
     let ids = first.body.as_slice();
     let body = StmtsIn { source, ids, bound };
@@ -209,17 +202,15 @@ fn put_if(
 fn put_lone(
     alloc: Global,
     draft: &mut PlainDraft,
-    node: BranchesIn,
+    node: LoneIn,
     out: &mut List<Own>,
 ) -> Result<(), NoMemory>
-    requires ready { IsReady node.source.now draft.old out.old }
-    requires lone { length node.branches.now ≡ 1 }
-    ensures { OnOk result (PutIf node.entry.source.now draft.old draft.new out.old out.new node.entry.line node.entry.branches.now node.entry.rest.now) }
+    requires { IsReady node.source.now draft.old out.old }
+    ensures { OnOk result (PutLone node.entry.source.now draft.old draft.new out.old out.new node.entry.line node.entry.branch.now node.entry.rest.now) }
 {
     let source = node.source;
     let bound = node.bound;
-    let branches = node.branches;
-    let branch = &branches[0];
+    let branch = node.branch;
     let ids = branch.body.as_slice();
     let body = StmtsIn { source, ids, bound };
     let rest = StmtsIn {
@@ -291,14 +282,11 @@ fn put_case(
     draft.keeps();
     let fresh = fresh_keys(alloc, node.arms, on.shape)?;
     let fresh = fresh.as_slice();
-    let keyed = Keyed {
-        on,
-        arms: node.arms,
-        fresh,
-    };
     let arms = ArmsIn {
         source,
-        keyed,
+        on: node.on,
+        arms: node.arms,
+        fresh,
         rest: node.rest,
         bound: node.bound,
         line: node.line,
@@ -315,15 +303,14 @@ fn put_arms(
     node: ArmsIn,
     out: &mut List<Own>,
 ) -> Result<(), NoMemory>
-    requires ready { IsReady node.source.now draft.old out.old }
-    requires on { HasShape draft.old node.keyed.on }
-    ensures { OnOk result (PutArms node.entry.source.now draft.old draft.new out.old out.new node.entry.keyed.on.id.place node.entry.line node.entry.keyed.arms.now) }
+    requires { IsReady node.source.now draft.old out.old }
+    ensures { OnOk result (PutArms node.entry.source.now draft.old draft.new out.old out.new node.entry.on.place node.entry.line node.entry.arms.now) }
 {
     let source = node.source;
     let bound = node.bound;
-    let on = node.keyed.on;
-    let arms = node.keyed.arms;
-    let fresh = node.keyed.fresh;
+    let arms = node.arms;
+    let fresh = node.fresh;
+    let on = source.lowered(draft, node.on);
     for (number, arm) in arms.iter().enumerate() {
         let here = push_key(draft, on, fresh[number], arm.key)?;
         let ids = arm.body.as_slice();
@@ -341,19 +328,25 @@ fn put_otherwise(
     node: ArmsIn,
     out: &mut List<Own>,
 ) -> Result<(), NoMemory>
-    requires ready { IsReady node.source.now draft.old out.old }
-    requires on { HasShape draft.old node.keyed.on }
-    ensures { OnOk result (PutOtherwise node.entry.source.now draft.old draft.new out.old out.new node.entry.keyed.on.id.place node.entry.line node.entry.keyed.arms.now node.entry.rest.now) }
+    requires { IsReady node.source.now draft.old out.old }
+    ensures { OnOk result (PutOtherwise node.entry.source.now draft.old draft.new out.old out.new node.entry.on.place node.entry.line node.entry.arms.now node.entry.rest.now) }
 {
+    let source = node.source;
     if node.rest.is_empty() {
         return Ok(());
     }
     let rest = StmtsIn {
-        source: node.source,
+        source,
         ids: node.rest,
         bound: node.bound,
     };
-    match push_no_keys(draft, node.keyed)? {
+    let on = source.lowered(draft, node.on);
+    let keyed = Keyed {
+        on,
+        arms: node.arms,
+        fresh: node.fresh,
+    };
+    match push_no_keys(draft, keyed)? {
         Some(none) => put_block_when(alloc, draft, none, rest, node.line, out),
         None => put_flat_block(alloc, draft, rest, out),
     }

@@ -73,24 +73,6 @@ pub(crate) fn push_key(
     }
 }
 
-/// Adds the condition that an expression is none of some keys, and not this one.
-fn push_and_none(
-    draft: &mut PlainDraft,
-    none: Option<ExprId>,
-    on: Operand,
-    key: i128,
-) -> Result<ExprId, NoMemory>
-    requires on { HasShape draft.old on }
-    requires none { AreBits draft.old none }
-    ensures { IfOk result (λ id. NonePut draft.old draft.new (Some id) (and_none (none_of draft.old none) (asked (shapes draft.old) (term draft.old on.id.place) (NoKey key)))) }
-{
-    let other = push_test(draft, on, Test::NoKey(key))?;
-    match none {
-        Some(none) => push_binary(draft, Op::And, none, other),
-        None => Ok(other),
-    }
-}
-
 /// Adds the condition that an expression is none of some keys, and not this one where it is fresh.
 fn push_no_key(
     draft: &mut PlainDraft,
@@ -103,10 +85,16 @@ fn push_no_key(
     requires none { AreBits draft.old none }
     ensures { IfOk result (λ more. NonePut draft.old draft.new more (if fresh then and_none (none_of draft.old none) (asked (shapes draft.old) (term draft.old on.id.place) (NoKey key)) else none_of draft.old none)) }
 {
-    if fresh {
-        Ok(Some(push_and_none(draft, none, on, key)?))
-    } else {
-        Ok(none)
+    if !fresh {
+        return Ok(none);
+    }
+    let other = push_test(draft, on, Test::NoKey(key))?;
+    match none {
+        Some(none) => {
+            let both = push_binary(draft, Op::And, none, other)?;
+            Ok(Some(both))
+        }
+        None => Ok(Some(other)),
     }
 }
 

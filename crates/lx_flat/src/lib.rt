@@ -8,3 +8,4 @@ mod keys;
 mod sites;
 
 pub use flat::flatten;
+pub use sites::StmtsIn;

@@ -219,7 +219,7 @@ pub shown_for : (x y : Design) (lists : List (List StmtId)) (k : ℕ) (shown : L
 shown_for x y lists k shown g h l e =
     let m : k < length x.signals = omega (arith, h.long) in
     let there = h.there k m in
-    subst (λ (is : List StmtId). IsFor y k is) (sym e) (record { there = there_kept (list_at lists k) g there; alone = ap (are_for k) (block_kept (list_at lists k) g there) ∙ h.alone k m })
+    subst (λ (is : List StmtId). IsFor y k is) (sym e) (record { signal = omega (arith, m, as_many g); there = there_kept (list_at lists k) g there; alone = ap (are_for k) (block_kept (list_at lists k) g there) ∙ h.alone k m })
 
 pub shown_alone : (x : Design) (lists : List (List StmtId)) (k : ℕ) (shown : List StmtId) → AreForSignals x lists → k < length lists → shown ≡ list_at lists k → are_for k (block x shown) ≡ true
 shown_alone x lists k shown h l e = ap (λ (is : List StmtId). are_for k (block x is)) e ∙ h.alone k (omega (arith, h.long))

@@ -60,11 +60,11 @@ mask_more xs free hs n ys x h at =
     }
 
 -- by the node that was made
-pub mask_next : (xs : List Expr) (free : List Bool) (hs : List Shape) (n : ℕ) (ys zs : List Expr) (x node : Expr) (d : Bool) (a : Shape) → IsMask xs free hs n ys → slice_get xs n ≡ Some x → n < length free → n < length hs
-    → node ≡ mask_node (get_or free n d) (get_or hs n a) x → zs ≡ ys ++ node ∷ [] → IsMask xs free hs (n + 1) zs
-mask_next xs free hs n ys zs x node d a h at l m e f =
+pub mask_next : (xs : List Expr) (free : List Bool) (hs : List Shape) (n : ℕ) (ys zs : List Expr) (x node : Expr) (own : Bool) (a : Shape) → IsMask xs free hs n ys → slice_get xs n ≡ Some x → own ≡ free_at free n → n < length hs
+    → node ≡ mask_node own (get_or hs n a) x → zs ≡ ys ++ node ∷ [] → IsMask xs free hs (n + 1) zs
+mask_next xs free hs n ys zs x node own a h at l m e f =
     let same : node ≡ mask_node (free_at free n) (shape_at hs n) x =
-    e ∙ ap (λ (b : Bool). mask_node b (get_or hs n a) x) (get_or_default free n d false l) ∙ ap (λ (c : Shape). mask_node (free_at free n) c x) (get_or_default hs n a _ m) in
+    e ∙ ap (λ (b : Bool). mask_node b (get_or hs n a) x) l ∙ ap (λ (c : Shape). mask_node (free_at free n) c x) (get_or_default hs n a _ m) in
     subst (IsMask xs free hs (n + 1)) (ap (λ (y : Expr). ys ++ y ∷ []) (sym same) ∙ sym f) (mask_more xs free hs n ys x h at)
 
 -- ---- free nodes

@@ -53,8 +53,9 @@ pub record AreForSignals (d : Design) (lists : List (List StmtId)) : Type 0 wher
   pub there : (k : ℕ) → k < length d.signals → AreThere d (list_at lists k)
   pub alone : (k : ℕ) → k < length d.signals → are_for k (block d (list_at lists k)) ≡ true
 
--- statements for the signal x
+-- statements for the signal x, which is there
 pub record IsFor (d : Design) (x : ℕ) (ids : List StmtId) : Type 0 where
+  pub signal : x < length d.signals
   pub there : AreThere d ids
   pub alone : are_for x (block d ids) ≡ true
 

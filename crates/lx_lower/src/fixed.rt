@@ -1,7 +1,6 @@
 //! Expressions that name neither a signal nor a word of a memory, and their values.
 
-ghost use Rattle.std.specs.Prelude.{◌≡◌, ◌<◌, [], pos, length, replicate, IfOk, IsTrue};
-ghost use Rattle.lx_fhdl.specs.Below.{all_below, expr_below};
+ghost use Rattle.std.specs.Prelude.{◌≡◌, ◌<◌, [], pos, length, replicate, IfOk};
 ghost use Rattle.lx_fhdl.specs.Drafts.{DraftKeeps};
 ghost use Rattle.lx_fhdl.specs.Nodes.{IsShaped};
 ghost use Rattle.lx_lower.specs.Fixed.{AreFree, AreValued, IsFixed, IsMask, all_free, free_at, mask_node, node_free};
@@ -24,15 +23,15 @@ pub struct Fixed {
     pub values: List<i128>,
 }
 
+/// Whether the expression at a place is free, as the list says. Nothing is said of places past its end: false.
 fn free_at(free: &[bool], id: ExprId) -> bool
-    requires { id.place < length free.now }
     ensures { result ≡ free_at free.now id.place }
 {
-    free[id.place]
+    free.get(id.place).copied().unwrap_or(false)
 }
 
+/// Whether all of some expressions are free.
 fn all_free(free: &[bool], ids: &[ExprId]) -> bool
-    requires { IsTrue (all_below (length free.now) ids.now) }
     ensures { result ≡ all_free free.now ids.now }
 {
     for id in ids {
@@ -45,7 +44,6 @@ fn all_free(free: &[bool], ids: &[ExprId]) -> bool
 
 /// Whether a node names neither a signal nor a word of a memory, from its children.
 fn node_free(free: &[bool], node: &Expr) -> bool
-    requires { IsTrue (expr_below node.now (length free.now)) }
     ensures { result ≡ node_free free.now node.now }
 {
     match node {
@@ -157,8 +155,7 @@ fn masked_node(alloc: Global, node: &Expr, free: bool, shape: Shape) -> Result<E
 
 /// The expressions at their places, with 0 in place of each that isn't free.
 fn masked(alloc: Global, exprs: &Exprs, free: &[bool], shapes: &[Shape]) -> Result<Exprs, NoMemory>
-    requires free { length free.now ≡ length exprs.now }
-    requires shapes { length shapes.now ≡ length exprs.now }
+    requires { length shapes.now ≡ length exprs.now }
     ensures ok { IfOk result (λ mask. IsMask exprs.now free.now shapes.now (length exprs.now) mask) }
 {
     let mut mask = Exprs::new(alloc);
@@ -167,7 +164,8 @@ fn masked(alloc: Global, exprs: &Exprs, free: &[bool], shapes: &[Shape]) -> Resu
             place,
             of: PhantomData,
         };
-        let node = masked_node(alloc, exprs.get(id), free[place], shapes[place])?;
+        let own = free_at(free, id);
+        let node = masked_node(alloc, exprs.get(id), own, shapes[place])?;
         mask.push(node)?;
     }
     Ok(mask)

@@ -3,12 +3,13 @@
 ghost use Rattle.std.specs.Prelude.{◌≡◌, ℕ, ◌<◌, true, length, IfOk, IsTrue};
 ghost use Rattle.lx_circuit.specs.Values.{value_of};
 ghost use Rattle.lx_fhdl.specs.Below.{stmt_below};
-ghost use Rattle.lx_fhdl.specs.Designs.{shapes, stmt, target, term};
+ghost use Rattle.lx_fhdl.specs.Designs.{block, shapes, stmt, target, term};
 ghost use Rattle.lx_fhdl.specs.Keeping.{StmtStands, TargetStands};
+ghost use Rattle.lx_fhdl.specs.Lowered.{are_for, is_for, is_plain_target};
 ghost use Rattle.lx_fhdl.specs.Stmts.{node_stmt, node_target};
 ghost use Rattle.lx_flat.specs.Ready.{LowerBranches, LowerStmts};
 ghost use Rattle.lx_lowering.specs.Constants.{names_none, zeros};
-ghost use Rattle.lx_lower.specs.Fixed.{IsFixed, IsNarrow, reset_of};
+ghost use Rattle.lx_lower.specs.Fixed.{AreForFree, IsFixed, IsForFree, IsNarrow, reset_of};
 ghost use Rattle.lx_plain.specs.Lines.{lines_at};
 ghost use Rattle.lx_plain.specs.Owned.{node_lines_of};
 
@@ -53,35 +54,65 @@ impl<'a> Known<'a> {
         let draft = self.draft;
         draft.design().stmts.len()
     }
+}
 
-    /// Whether an expression names neither a signal nor a word of a memory.
-    pub fn is_free(&self, id: ExprId) -> bool
-        requires { id.place < length self.now.exprs }
-        ensures { result ≡ names_none (term self.now id.place) }
+/// An expression of a known draft.
+#[derive(Clone, Copy)]
+pub(crate) struct ExprOf<'a> {
+    pub known: &'a Known<'a>,
+    pub id: ExprId,
+    pub ghost there: { id.place < length known.now.exprs },
+}
+
+impl<'a> ExprOf<'a> {
+    /// Whether it names neither a signal nor a word of a memory.
+    pub fn is_free(self) -> bool
+        ensures { result ≡ names_none (term self.entry.known.now self.entry.id.place) }
     {
-        let _draft = self.draft;
-        *self.fixed.free.at(id.place)
+        let known = self.known;
+        let _draft = known.draft;
+        *known.fixed.free.at(self.id.place)
     }
+}
 
-    /// The value of a free expression.
-    pub fn value_of(&self, id: ExprId) -> i128
-        requires place { id.place < length self.now.exprs }
-        requires free { names_none (term self.now id.place) ≡ true }
-        ensures { result ≡ value_of (shapes self.now) zeros (term self.now id.place) }
+/// A free expression of a known draft.
+#[derive(Clone, Copy)]
+pub(crate) struct FreeOf<'a> {
+    pub known: &'a Known<'a>,
+    pub id: ExprId,
+    pub ghost there: { id.place < length known.now.exprs },
+    pub ghost free: { names_none (term known.now id.place) ≡ true },
+}
+
+impl<'a> FreeOf<'a> {
+    /// Its value.
+    pub fn value(self) -> i128
+        ensures { result ≡ value_of (shapes self.entry.known.now) zeros (term self.entry.known.now self.entry.id.place) }
     {
-        let _draft = self.draft;
-        *self.fixed.values.at(id.place)
+        let known = self.known;
+        let _draft = known.draft;
+        *known.fixed.values.at(self.id.place)
     }
+}
 
-    /// A signal.
-    pub fn signal(&self, x: SigId) -> &'a Signal
-        requires { x.0 < length self.now.signals }
+/// A signal of a known draft.
+#[derive(Clone, Copy)]
+pub(crate) struct SignalOf<'a> {
+    pub known: &'a Known<'a>,
+    pub id: SigId,
+    pub ghost there: { id.0 < length known.now.signals },
+}
+
+impl<'a> SignalOf<'a> {
+    /// What the draft says of it.
+    pub fn signal(self) -> &'a Signal
         ensures narrow { IsNarrow result.now.shape }
-        ensures shape { result.now.shape ≡ shapes self.now x.0 }
-        ensures reset { result.now.reset ≡ reset_of self.now x.0 }
+        ensures shape { result.now.shape ≡ shapes self.entry.known.now self.entry.id.0 }
+        ensures reset { result.now.reset ≡ reset_of self.entry.known.now self.entry.id.0 }
     {
-        let draft = self.draft;
-        draft.design().signals.at(x.0)
+        let known = self.known;
+        let draft = known.draft;
+        draft.design().signals.at(self.id.0)
     }
 }
 
@@ -143,4 +174,56 @@ pub(crate) struct BranchesOf<'a> {
     pub branches: &'a [Branch],
     pub bound: usize,
     pub ghost lower: { LowerBranches known.now bound branches.now },
+}
+
+/// A target of a known draft that is a signal, or some of its bits.
+#[derive(Clone, Copy)]
+pub(crate) struct OwnTarget<'a> {
+    pub known: &'a Known<'a>,
+    pub id: TargetId,
+    pub signal: SigId,
+    pub ghost there: { id.place < length known.now.targets },
+    pub ghost plain: { is_plain_target signal.0 (target known.now id.place) ≡ true },
+}
+
+/// A statement of a known draft for a signal.
+#[derive(Clone, Copy)]
+pub(crate) struct OwnStmt<'a> {
+    pub known: &'a Known<'a>,
+    pub id: StmtId,
+    pub signal: SigId,
+    pub ghost there: { id.place < length known.now.stmts },
+    pub ghost alone: { is_for signal.0 (stmt known.now id.place) ≡ true },
+}
+
+/// Statements of a known draft for a signal, each lower than a bound.
+#[derive(Clone, Copy)]
+pub(crate) struct OwnBlock<'a> {
+    pub known: &'a Known<'a>,
+    pub ids: &'a [StmtId],
+    pub bound: usize,
+    pub signal: SigId,
+    pub ghost lower: { LowerStmts known.now bound ids.now },
+    pub ghost alone: { are_for signal.0 (block known.now ids.now) ≡ true },
+}
+
+/// A statement of a known draft for a signal, which reads nothing.
+#[derive(Clone, Copy)]
+pub(crate) struct FreeStmt<'a> {
+    pub known: &'a Known<'a>,
+    pub id: StmtId,
+    pub signal: SigId,
+    pub ghost there: { id.place < length known.now.stmts },
+    pub ghost free: { IsForFree signal.0 (stmt known.now id.place) },
+}
+
+/// Statements of a known draft for a signal, which read nothing, each lower than a bound.
+#[derive(Clone, Copy)]
+pub(crate) struct FreeBlock<'a> {
+    pub known: &'a Known<'a>,
+    pub ids: &'a [StmtId],
+    pub bound: usize,
+    pub signal: SigId,
+    pub ghost lower: { LowerStmts known.now bound ids.now },
+    pub ghost free: { AreForFree signal.0 (block known.now ids.now) },
 }

@@ -9,7 +9,7 @@ ghost use Rattle.lx_lower.specs.Lists.{AreBySignal, AreFolds, AreForSignals, IsF
 ghost use Rattle.lx_plain.specs.Owned.{all_signals};
 
 use crate::fold::{Folded, fold_of};
-use crate::known::{BlockOf, Known};
+use crate::known::{Known, OwnBlock};
 use lx_fhdl::{Draft, SigId, Stmt, StmtId, Target};
 use lx_plain::conds::push_constant;
 use lx_plain::groups::copied_ids;
@@ -29,17 +29,20 @@ fn no_lists(alloc: Global, signals: usize) -> Result<Vec<List<StmtId>>, NoMemory
     Ok(lists)
 }
 
+/// Statements for some of so many signals.
+#[derive(Clone, Copy)]
+pub(crate) struct OwnsIn<'a> {
+    pub owns: &'a [Own],
+    pub signals: usize,
+    pub ghost there: { IsTrue (all_signals signals owns.now) },
+}
+
 /// For each of some signals its statements.
-pub(crate) fn by_signal(
-    alloc: Global,
-    owns: &[Own],
-    signals: usize,
-) -> Result<Vec<List<StmtId>>, NoMemory>
-    requires { IsTrue (all_signals signals owns.now) }
-    ensures { IfOk result (λ lists. AreBySignal signals owns.now lists.items) }
+pub(crate) fn by_signal(alloc: Global, of: OwnsIn) -> Result<Vec<List<StmtId>>, NoMemory>
+    ensures { IfOk result (λ lists. AreBySignal of.entry.signals of.entry.owns.now lists.items) }
 {
-    let mut lists = no_lists(alloc, signals)?;
-    for own in owns {
+    let mut lists = no_lists(alloc, of.signals)?;
+    for own in of.owns {
         lists[own.signal.0].push(own.stmt)?;
     }
     Ok(lists)
@@ -66,26 +69,31 @@ pub(crate) fn joined(alloc: Global, lists: &[List<StmtId>]) -> Result<List<StmtI
     Ok(list)
 }
 
+/// The lists of all signals of a draft, each for its signal alone.
+#[derive(Clone, Copy)]
+pub(crate) struct SignalLists<'a> {
+    pub draft: &'a Draft,
+    pub lists: &'a [List<StmtId>],
+    pub ghost alone: { AreForSignals draft.now lists.now },
+}
+
 /// What each list gives its signal, where it reads nothing.
-pub(crate) fn folds(
-    alloc: Global,
-    draft: &Draft,
-    lists: &[List<StmtId>],
-) -> Result<List<Option<Folded>>, NoMemory>
-    requires { AreForSignals draft.now lists.now }
-    ensures { IfOk result (λ folds. AreFolds draft.now lists.now (length draft.now.signals) folds) }
+pub(crate) fn folds(alloc: Global, of: SignalLists) -> Result<List<Option<Folded>>, NoMemory>
+    ensures { IfOk result (λ folds. AreFolds of.entry.draft.now of.entry.lists.now (length of.entry.draft.now.signals) folds) }
 {
-    let known = Known::new(alloc, draft)?;
+    let lists = of.lists;
+    let known = Known::new(alloc, of.draft)?;
     let bound = known.stmts();
     let mut folds = List::new(alloc);
     for x in 0..lists.len() {
         let list = lists[x].as_slice();
-        let stmts = BlockOf {
+        let stmts = OwnBlock {
             known: &known,
             ids: list,
             bound,
+            signal: SigId(x),
         };
-        let fold = fold_of(stmts, SigId(x));
+        let fold = fold_of(stmts);
         folds.push(fold)?;
     }
     Ok(folds)
@@ -122,8 +130,7 @@ fn fold_list(
     fold: Option<Folded>,
     ids: &[StmtId],
 ) -> Result<List<StmtId>, NoMemory>
-    requires signal { x.0 < length draft.old.signals }
-    requires ids { IsFor draft.old x.0 ids.now }
+    requires { IsFor draft.old x.0 ids.now }
     ensures { IfOk result (λ list. OnePut draft.old draft.new x.0 list (chosen draft.old x.0 fold (block draft.old ids.now)) (chosen_lines fold (lines draft.old x.0 ids.now))) }
 {
     match fold {

@@ -2,13 +2,13 @@
 
 ghost use Rattle.std.specs.Prelude.{◌≡◌, [], length, IfOk};
 ghost use Rattle.lx_fhdl.specs.Designs.{stmts_of};
-ghost use Rattle.lx_lower.specs.Lists.{AreThere, ListPut, ListsPut, PartsPut, folded_lines_of, folded_of, lists_of, split_of};
+ghost use Rattle.lx_lower.specs.Lists.{ListPut, ListsPut, PartsPut, folded_lines_of, folded_of, lists_of, split_of};
 ghost use Rattle.lx_flat.specs.Puts.{lines_for};
 ghost use Rattle.lx_flat.specs.Ready.{IsReady};
 
-use crate::lists::{add_all, by_signal, fold_lists, folds, joined};
+use crate::lists::{OwnsIn, SignalLists, add_all, by_signal, fold_lists, folds, joined};
 use lx_fhdl::{StmtId, SyncPart};
-use lx_flat::flatten;
+use lx_flat::{StmtsIn, flatten};
 use lx_plain::plain::PlainDraft;
 use lx_plain::source::Source;
 use lx_text::{List, NoMemory};
@@ -17,31 +17,29 @@ use std::alloc::Global;
 /// Adds the flat statements of some statements of the design, and gives those of each signal.
 fn split(
     alloc: Global,
-    source: &Source,
     draft: &mut PlainDraft,
-    ids: &[StmtId],
+    stmts: StmtsIn,
 ) -> Result<Vec<List<StmtId>>, NoMemory>
-    requires ready { IsReady source.now draft.old [] }
-    requires there { AreThere source.now.design ids.now }
-    ensures { IfOk result (λ lists. ListsPut draft.old draft.new (length draft.new.signals) lists.items (split_of source.now.design ids.now) (lines_for source.now.design ids.now)) }
+    requires { IsReady stmts.source.now draft.old [] }
+    ensures { IfOk result (λ lists. ListsPut draft.old draft.new (length draft.new.signals) lists.items (split_of stmts.entry.source.now.design stmts.entry.ids.now) (lines_for stmts.entry.source.now.design stmts.entry.ids.now)) }
 {
-    let owns = flatten(alloc, source, draft, ids)?;
+    let source = stmts.source;
+    let owns = flatten(alloc, draft, stmts)?;
     let signals = source.design().signals.len();
-    by_signal(alloc, owns.as_slice(), signals)
+    let owns = owns.as_slice();
+    by_signal(alloc, OwnsIn { owns, signals })
 }
 
 /// Adds the lists of some statements of the design, one for each signal.
 fn lower_list(
     alloc: Global,
-    source: &Source,
     draft: &mut PlainDraft,
-    ids: &[StmtId],
+    stmts: StmtsIn,
 ) -> Result<List<StmtId>, NoMemory>
-    requires ready { IsReady source.now draft.old [] }
-    requires there { AreThere source.now.design ids.now }
-    ensures { IfOk result (λ list. ListPut draft.old draft.new list (lists_of source.now.design ids.now) (lines_for source.now.design ids.now)) }
+    requires { IsReady stmts.source.now draft.old [] }
+    ensures { IfOk result (λ list. ListPut draft.old draft.new list (lists_of stmts.entry.source.now.design stmts.entry.ids.now) (lines_for stmts.entry.source.now.design stmts.entry.ids.now)) }
 {
-    let lists = split(alloc, source, draft, ids)?;
+    let lists = split(alloc, draft, stmts)?;
     draft.keeps();
     joined(alloc, lists.as_slice())
 }
@@ -56,8 +54,18 @@ pub(crate) fn lower_comb(
     ensures { IfOk result (λ list. ListPut draft.old draft.new list (folded_of source.now.design source.now.design.comb) (folded_lines_of source.now.design source.now.design.comb)) }
 {
     let design = source.design();
-    let lists = split(alloc, source, draft, design.comb.as_slice())?;
-    let folds = folds(alloc, draft.draft(), lists.as_slice())?;
+    let bound = source.stmts();
+    let stmts = StmtsIn {
+        source: &*source,
+        ids: design.comb.as_slice(),
+        bound,
+    };
+    let lists = split(alloc, draft, stmts)?;
+    let of = SignalLists {
+        draft: draft.draft(),
+        lists: lists.as_slice(),
+    };
+    let folds = folds(alloc, of)?;
     let lists = fold_lists(alloc, draft, lists.as_slice(), folds.as_slice())?;
     draft.keeps();
     joined(alloc, lists.as_slice())
@@ -86,10 +94,16 @@ pub(crate) fn lower_sync(
     ensures { IfOk result (λ parts. PartsPut source.now.design draft.old draft.new (length source.now.design.domains) parts) }
 {
     let design = source.design();
+    let bound = source.stmts();
     let mut parts = List::new(alloc);
     for domain in 0..design.domains.len() {
         let ids = domain_stmts(alloc, design.sync.as_slice(), domain)?;
-        let stmts = lower_list(alloc, source, draft, ids.as_slice())?;
+        let own = StmtsIn {
+            source: &*source,
+            ids: ids.as_slice(),
+            bound,
+        };
+        let stmts = lower_list(alloc, draft, own)?;
         parts.push(SyncPart { domain, stmts })?;
     }
     Ok(parts)

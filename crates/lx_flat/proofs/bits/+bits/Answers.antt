@@ -1,6 +1,6 @@
 use Rattle.std.proofs.Common.{sym, ap, ◌∙◌, arith}
 use Rattle.lx_circuit.specs.Statements.{target_bits}
-use Rattle.lx_flat.proofs.Pieces.{cat_most, items_lower, node_as, parts_lower, target_below_at, whole_stands}
+use Rattle.lx_flat.proofs.Pieces.{node_as, target_below_at, whole_stands}
 use Rattle.lx_flat.proofs.bits.+bits.Goals as goal
 
 pub most_of_bits-invariant_of-target_bits : goal.most_of_bits-invariant_of-target_bits

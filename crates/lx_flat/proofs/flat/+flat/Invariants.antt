@@ -7,7 +7,7 @@ use Rattle.lx_flat.specs.Keys.{arms_block, seen_keys}
 use Rattle.lx_plain.specs.Owned.{PutSome}
 use Rattle.lx_plain.specs.Lines.{both_lines}
 use Rattle.lx_plain.specs.Plain.{IsBit}
-use Rattle.lx_flat.specs.Puts.{arms_inside, branches_inside, lines_for, lines_inside}
+use Rattle.lx_flat.specs.Puts.{arms_inside, branches_inside, lines_for, lines_inside, lowered_at}
 use Rattle.lx_flat.proofs.flat.+flat.Given as goal
 
 abbrev pub decreases-put_flat : goal.decreases-put_flat
@@ -57,7 +57,7 @@ invariant-put_chain-loop-branch l =
 abbrev pub invariant-put_arms-loop-number : goal.invariant-put_arms-loop-number
 invariant-put_arms-loop-number l =
     PutSome l.initial.draft l.draft l.initial.out l.out
-    (arms_block (shapes l.node.source.now.design) (stmt l.node.source.now.design) (term l.initial.draft l.node.keyed.on.id.place) [] l.node.keyed.arms.now)
-    (arms_block (shapes l.node.source.now.design) (stmt l.node.source.now.design) (term l.initial.draft l.node.keyed.on.id.place) (seen_keys (take l.number l.node.keyed.arms.now)) (drop l.number l.node.keyed.arms.now))
-    (arms_inside l.node.source.now.design true l.node.line l.node.keyed.arms.now)
-    (arms_inside l.node.source.now.design true l.node.line (drop l.number l.node.keyed.arms.now))
+    (arms_block (shapes l.node.source.now.design) (stmt l.node.source.now.design) (lowered_at l.node.source.now.design l.node.on.place) [] l.node.arms.now)
+    (arms_block (shapes l.node.source.now.design) (stmt l.node.source.now.design) (lowered_at l.node.source.now.design l.node.on.place) (seen_keys (take l.number l.node.arms.now)) (drop l.number l.node.arms.now))
+    (arms_inside l.node.source.now.design true l.node.line l.node.arms.now)
+    (arms_inside l.node.source.now.design true l.node.line (drop l.number l.node.arms.now))

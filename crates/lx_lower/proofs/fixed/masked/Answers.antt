@@ -11,4 +11,4 @@ push-requires c = rw c.loop-place.invariant.long (mask_below _ _ _ _ _ c.in_ok-n
 pub loop-place-preserved : goal.loop-place-preserved
 loop-place-preserved c =
     let within : c.loop-place.place < length c.args.exprs.now = omega (arith, c.len-place-end.ensures) in
-    mask_next _ _ _ _ _ _ _ _ _ _ c.loop-place.invariant c.get.ensures.item (omega (arith, c.requires.free)) (omega (arith, c.requires.shapes)) c.in_ok-node.ensures c.in_ok-push.ensures.ok.1
+    mask_next _ _ _ _ _ _ _ _ _ _ c.loop-place.invariant c.get.ensures.item c.free_at-own.ensures (omega (arith, c.requires)) c.in_ok-node.ensures c.in_ok-push.ensures.ok.1

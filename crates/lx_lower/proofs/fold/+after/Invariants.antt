@@ -14,7 +14,7 @@ decreases-after_block l = 2 * l.stmts.bound
 
 abbrev pub invariant-after_block-loop-id : goal.invariant-after_block-loop-id
 invariant-after_block-loop-id l = record {
-  rest : after_pieces l.x.0 l.pattern (taken_block (shapes l.stmts.known.now) zeros (block l.stmts.known.now (drop l.id-index l.stmts.ids.now))) ≡ after_pieces l.x.0 l.initial.pattern (taken_block (shapes l.stmts.known.now) zeros (block l.stmts.known.now l.stmts.ids.now));
+  rest : after_pieces l.stmts.signal.0 l.pattern (taken_block (shapes l.stmts.known.now) zeros (block l.stmts.known.now (drop l.id-index l.stmts.ids.now))) ≡ after_pieces l.stmts.signal.0 l.initial.pattern (taken_block (shapes l.stmts.known.now) zeros (block l.stmts.known.now l.stmts.ids.now));
   lower : LowerStmts l.stmts.known.now l.stmts.bound (drop l.id-index l.stmts.ids.now);
-  free : AreForFree l.x.0 (block l.stmts.known.now (drop l.id-index l.stmts.ids.now));
+  free : AreForFree l.stmts.signal.0 (block l.stmts.known.now (drop l.id-index l.stmts.ids.now));
 }

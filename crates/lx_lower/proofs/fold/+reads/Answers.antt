@@ -9,8 +9,8 @@ reads_none-invariant_of-own t c =
     let lower = if_lower _ _ _ _ _ c.stmt.ensures.below c.in-If.is in
     record { lower = rw c.as_slice-branches.ensures (record { within = omega (arith, c.args.stmt.there); conds = λ k z l. cond_at _ _ k z stands l; below = lower.0 }) }
 
-pub branches_read_none-is_free-requires : goal.branches_read_none-is_free-requires
-branches_read_none-is_free-requires t c = rw c.branch-item.is (c.args.branches.lower.conds c.loop-branch.branch-index c.branch-item.result c.loop-branch-test.true)
+pub branches_read_none-invariant_of-cond : goal.branches_read_none-invariant_of-cond
+branches_read_none-invariant_of-cond t c = record { there = rw c.branch-item.is (c.args.branches.lower.conds c.loop-branch.branch-index c.branch-item.result c.loop-branch-test.true) }
 
 pub branches_read_none-invariant_of-block_reads_none : goal.branches_read_none-invariant_of-block_reads_none
 branches_read_none-invariant_of-block_reads_none t c =

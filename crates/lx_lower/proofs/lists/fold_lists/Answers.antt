@@ -5,8 +5,8 @@ use Rattle.lx_lower.proofs.lists.fold_lists.Goals as goal
 pub loop-x-init : goal.loop-x-init
 loop-x-init c = lists_none _ _ _ _ c.new-out.ensures.items
 
-pub fold_list-requires-clause-ids : goal.fold_list-requires-clause-ids
-fold_list-requires-clause-ids c =
+pub fold_list-requires : goal.fold_list-requires
+fold_list-requires c =
     shown_for _ _ c.args.lists.now c.loop-x.x _ c.loop-x.invariant.grows c.requires.lists c.loop-x-test.true (shown_is _ _ _ _ c.loop-x-test.true c.index-lists-x.is c.as_slice-list.ensures)
 
 pub loop-x-preserved : goal.loop-x-preserved

@@ -1,14 +1,14 @@
 use Rattle.std.proofs.Common.{◌∙◌, ap, length, sym}
 use Rattle.std.proofs.lemmas.Result.{IfOk-weaker}
-use Rattle.lx_lower.proofs.BySignal.{comb_there, for_signals}
+use Rattle.lx_lower.proofs.BySignal.{all_there, comb_there, for_signals}
 use Rattle.lx_lower.proofs.Listing.{comb_put, joined_put, lists_all}
 use Rattle.lx_lower.proofs.parts.lower_comb.Goals as goal
 
-pub split-requires : goal.split-requires
-split-requires c = record { ready = c.requires; there = rw (c.as_slice.ensures, c.design-design.ensures.is) (comb_there _ c.design-design.ensures.keeps.keeps) }
+pub invariant_of-stmts : goal.invariant_of-stmts
+invariant_of-stmts c = record { lower = rw (c.as_slice.ensures, c.stmts-bound.ensures, c.design-design.ensures.is) (all_there _ _ (comb_there _ c.design-design.ensures.keeps.keeps)) }
 
-pub folds-requires : goal.folds-requires
-folds-requires c = rw (c.draft.ensures.is, c.as_slice-2.ensures.value) (for_signals _ _ _ _ _ c.in_ok-lists.ensures)
+pub invariant_of-of : goal.invariant_of-of
+invariant_of-of c = record { alone = rw (c.draft.ensures.is, c.as_slice-2.ensures.value) (for_signals _ _ _ _ _ c.in_ok-lists.ensures) }
 
 pub fold_lists-requires : goal.fold_lists-requires
 fold_lists-requires c = record {
