@@ -23,7 +23,7 @@ use Rattle.lx_lower.proofs.FromKeeps.{can_be_lowered}
 use Rattle.lx_memory.specs.Lowers.{CanLowerPorts, NamesBelow, PortFits, ShowAlone, keeps_some}
 use Rattle.lx_memory.proofs.Mentioned.{block_below}
 
-signals_length : (d : Design) → length (circuit_of d).signals ≡ length d.signals
+pub signals_length : (d : Design) → length (circuit_of d).signals ≡ length d.signals
 unfolding circuit_of
 signals_length d = length-map d.signals made_of
 
@@ -31,7 +31,7 @@ from_length : (d : Design) (k : ℕ) (xs : List Domain) → length (domains_from
 from_length d k [] = refl
 from_length d k (x ∷ xs) = ap suc (from_length d (k + 1) xs)
 
-domains_length : (d : Design) → length (circuit_of d).domains ≡ length d.domains
+pub domains_length : (d : Design) → length (circuit_of d).domains ≡ length d.domains
 unfolding circuit_of
 domains_length d = from_length d 0 d.domains
 

@@ -1,5 +1,5 @@
 -- How the circuit of a design grows with it.
-use Rattle.std.proofs.Common.{◌≡◌, ℕ, zero, suc, ◌+◌, ◌<◌, Bool, true, false, List, [], ◌∷◌, ◌++◌, Option, Some, None, length, map, append_assoc, refl, sym, ap, subst, ◌∙◌, arith, nat_eq, cond, eq-eqb}
+use Rattle.std.proofs.Common.{◌≡◌, ℕ, zero, suc, ◌+◌, ◌<◌, ◌≤◌, Bool, true, false, List, [], ◌∷◌, ◌++◌, Option, Some, None, length, map, append_assoc, refl, sym, ap, subst, ◌∙◌, arith, nat_eq, cond, eq-eqb}
 use Rattle.std.specs.Prelude.{option_map, slice_get, slice_index_or}
 use Rattle.std.proofs.lemmas.Bool.{ne_eqb}
 use Rattle.std.proofs.lemmas.List.{append-nil, map-append}
@@ -26,9 +26,9 @@ use Rattle.lx_lower.proofs.FromKeeps.{sync_below}
 use Rattle.lx_lowering.specs.Flat.{append, one}
 use Rattle.lx_lowering.proofs.Appends.{append_all, append_done}
 use Rattle.lx_plain.proofs.Puts.{block_append}
-use Rattle.lx_memory.specs.Lowers.{IsGenerated}
+use Rattle.lx_memory.specs.Lowers.{ArePast, IsGenerated}
 use Rattle.lx_memory.specs.Ports.{changed, with_stmts, with_sync}
-use Rattle.lx_memory.specs.Puts.{Grows, Growth, IsGrowing, SyncPut, part_of}
+use Rattle.lx_memory.specs.Puts.{Grows, Growth, IsGrowing, StmtPut, SyncPut, part_of}
 use Rattle.lx_memory.proofs.Nodes.{lines_then, none_past}
 use Rattle.lx_memory.proofs.SignalShapes.{signal_shape_is}
 use Rattle.lx_memory.proofs.Standing.{block_stays, relisted, relisted_stays}
@@ -163,6 +163,10 @@ each_both : {T : Type 0} (P : T → Type 0) (xs ys : List T) → EachOf P xs →
 each_both P [] ys g h = h
 each_both P (x ∷ xs) ys g h = (g.0, each_both P xs ys g.1 h)
 
+past_wider : (n m : ℕ) (ids : List StmtId) → n ≤ m → ArePast m ids → ArePast n ids
+past_wider n m [] l h = tt
+past_wider n m (i ∷ is) l h = (omega (arith, h.0, l), past_wider n m is l h.1)
+
 pub growth_then : {x y z : Design} → Growth x y → Growth y z → Growth x z
 growth_then {x} {y} {z} g h =
     let a = g.added in
@@ -177,6 +181,7 @@ growth_then {x} {y} {z} g h =
         comb_are = b.comb_are ∙ (ap (λ (l : List StmtId). l ++ b.comb) a.comb_are ∙ append_assoc x.comb a.comb b.comb);
         sync_are = b.sync_are ∙ (ap (λ (l : List SyncPart). l ++ b.sync) a.sync_are ∙ append_assoc x.sync a.sync b.sync);
         generated = each_both IsGenerated a.signals b.signals a.generated b.generated;
+        past = each_both (λ (id : StmtId). length x.stmts ≤ id.place) a.comb b.comb a.past (past_wider (length x.stmts) (length y.stmts) b.comb g.stays.stmts b.past);
         lines = lines_then x y z h.stays a.lines b.lines;
       };
       memories = h.memories ∙ g.memories;
@@ -196,6 +201,7 @@ nodes_growth {x} {y} g = record {
     comb_are = ap (λ (d : Design). d.comb) g.is ∙ sym (append-nil x.comb);
     sync_are = ap (λ (d : Design). d.sync) g.is ∙ sym (append-nil x.sync);
     generated = tt;
+    past = tt;
     lines = g.lines;
   };
   memories = ap (λ (d : Design). d.memories) g.is;
@@ -215,6 +221,7 @@ growth_same x = record {
     comb_are = sym (append-nil x.comb);
     sync_are = sym (append-nil x.sync);
     generated = tt;
+    past = tt;
     lines = none_past x.stmts;
   };
   memories = refl;
@@ -234,6 +241,7 @@ with_signal x s h stays = record {
     comb_are = sym (append-nil x.comb);
     sync_are = sym (append-nil x.sync);
     generated = (h, tt);
+    past = tt;
     lines = none_past x.stmts;
   };
   memories = refl;
@@ -245,17 +253,19 @@ with_signal x s h stays = record {
 pub signal_growth : {x y : Design} {s : Signal} {id : ℕ} → IsGenerated s → SignalPut x y s id → Growth x y
 signal_growth {x} {y} {s} h p = subst (λ (d : Design). Growth x d) (sym p.is) (with_signal x s h (subst (λ (d : Design). Stays x d) p.is p.stays))
 
-with_statements : (x : Design) (is : List StmtId) (ps : List SyncPart) → Growth x (relisted x (x.comb ++ is) (x.sync ++ ps) x.ports)
-with_statements x is ps = record {
-  stays = relisted_stays x (x.comb ++ is) (x.sync ++ ps) x.ports;
+-- nothing but parts of domains more
+with_parts : (x : Design) (ps : List SyncPart) → Growth x (relisted x x.comb (x.sync ++ ps) x.ports)
+with_parts x ps = record {
+  stays = relisted_stays x x.comb (x.sync ++ ps) x.ports;
   added = record {
     signals = [];
-    comb = is;
+    comb = [];
     sync = ps;
     signals_are = sym (append-nil x.signals);
-    comb_are = refl;
+    comb_are = sym (append-nil x.comb);
     sync_are = refl;
     generated = tt;
+    past = tt;
     lines = none_past x.stmts;
   };
   memories = refl;
@@ -264,13 +274,34 @@ with_statements x is ps = record {
   ports = refl;
 }
 
-pub comb_growth : (x y : Design) (id : StmtId) → y ≡ record x { comb = x.comb ++ id ∷ [] } → Growth x y
-comb_growth x y id e =
-    subst (λ (d : Design). Growth x d) (sym e) (subst (λ (ps : List SyncPart). Growth x (relisted x (x.comb ++ id ∷ []) ps x.ports)) (append-nil x.sync) (with_statements x (id ∷ []) []))
-
 pub sync_growth : {x y : Design} {o : Option ℕ} {id : StmtId} → SyncPut x y o id → Growth x y
-sync_growth {x} {y} {o} {id} p =
-    subst (λ (d : Design). Growth x d) (sym p.is) (subst (λ (is : List StmtId). Growth x (relisted x is (x.sync ++ part_of o id) x.ports)) (append-nil x.comb) (with_statements x [] (part_of o id)))
+sync_growth {x} {y} {o} {id} p = subst (λ (d : Design). Growth x d) (sym p.is) (with_parts x (part_of o id))
+
+-- a statement that was put becomes combinatorial
+with_comb : (x y : Design) (id : StmtId) (t : tree.Stmt) → StmtPut x y id.place t → Growth x (relisted y (y.comb ++ id ∷ []) y.sync y.ports)
+with_comb x y id t p =
+    let g = nodes_growth p.grows in
+    record {
+      stays = stays_then x y (relisted y (y.comb ++ id ∷ []) y.sync y.ports) g.stays (relisted_stays y (y.comb ++ id ∷ []) y.sync y.ports);
+      added = record {
+        signals = [];
+        comb = id ∷ [];
+        sync = [];
+        signals_are = ap (λ (d : Design). d.signals) p.grows.is ∙ sym (append-nil x.signals);
+        comb_are = ap (λ (d : Design). d.comb ++ id ∷ []) p.grows.is;
+        sync_are = ap (λ (d : Design). d.sync) p.grows.is ∙ sym (append-nil x.sync);
+        generated = tt;
+        past = (p.past, tt);
+        lines = p.grows.lines;
+      };
+      memories = g.memories;
+      domains = g.domains;
+      ios = g.ios;
+      ports = g.ports;
+    }
+
+pub comb_growth : {x y z : Design} {id : StmtId} {t : tree.Stmt} → StmtPut x y id.place t → z ≡ record y { comb = y.comb ++ id ∷ [] } → Growth x z
+comb_growth {x} {y} {z} {id} {t} p e = subst (λ (d : Design). Growth x d) (sym e) (with_comb x y id t p)
 
 -- ---- a design that grew is wider
 

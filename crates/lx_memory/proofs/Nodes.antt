@@ -189,6 +189,7 @@ assign_put x y z t s value id p q l = record {
     there = stmt_there y z (stmt.Assign t value 0) id q;
     tree = q.tree ∙ ap (λ (w : tree.Target). tree.Assign w (term y value.place)) p.tree ∙ ap (tree.Assign (tree.Whole s.0)) (p.stays.terms value.place l);
   };
+  past = omega (arith, q.place, p.stays.stmts);
 }
 
 -- ---- a design is a draft

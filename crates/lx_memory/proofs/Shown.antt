@@ -139,6 +139,7 @@ taken_put {x} {a} {b} {o} {w} {stmt} {id} {t} e p h = record {
     there = h.has.there;
     tree = h.has.tree ∙ (held_same (shapes a) (shapes x) (Some w) (design.stmt a stmt.place) t (same_shapes p.grows w.0) p.has.tree ∙ ap (λ (z : Option SigId). held (shapes x) z t) (sym e));
   };
+  past = omega (arith, p.grows.stays.stmts, h.past);
 }
 
 -- one that keeps a word
@@ -186,7 +187,7 @@ port_lowered {x} {a} {b} {y} {q} {r} {value} {stmt} e p ga h is =
     let w = with_register c (registers c (port_of q) (port_of q).mode) q.domain (takes c (port_of q) (length c.signals) (port_of q).mode) in
     let shows = reads c (port_of q) (length c.signals) (port_of q).mode in
     record {
-      growth = growth_then p.growth (growth_then (nodes_growth h.grows) (comb_growth b y stmt is));
+      growth = growth_then p.growth (comb_growth h is);
       circuit =
           comb_circuit b y stmt is
           ∙ ap (λ (t : tree.Stmt). record (circuit_of b) { comb = append (circuit_of b).comb (one t) }) (h.has.tree ∙ ap (tree.Assign (tree.Whole r.0)) p.has.tree)

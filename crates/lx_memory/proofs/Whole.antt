@@ -198,6 +198,7 @@ end_added x y qs a = record {
   comb_are = a.comb_are;
   sync_are = a.sync_are;
   generated = a.generated;
+  past = a.past;
   lines = a.lines;
 }
 

@@ -87,7 +87,12 @@ line_of (stmt.Assign target value line) = line
 line_of (stmt.If branches rest line) = line
 line_of (stmt.Case on arms rest line) = line
 
--- the signals, statements and parts of domains that come after those of the design, all of generated hardware
+-- the statements of a list are none of the first n
+abbrev pub ArePast : ℕ → List StmtId → Type 0
+ArePast n ids = EachOf (λ (id : StmtId). n ≤ id.place) ids
+
+-- The signals, statements and parts of domains that come after those of the design, all of generated hardware. The combinatorial
+-- statements are none of the design's own.
 pub record Added (d e : Design) : Type 0 where
   pub signals : List Signal
   pub comb : List StmtId
@@ -96,6 +101,7 @@ pub record Added (d e : Design) : Type 0 where
   pub comb_are : e.comb ≡ d.comb ++ comb
   pub sync_are : e.sync ≡ d.sync ++ sync
   pub generated : EachOf IsGenerated signals
+  pub past : ArePast (length d.stmts) comb
   pub lines : (k : ℕ) (x : Stmt) → length d.stmts ≤ k → slice_get e.stmts k ≡ Some x → line_of x ≡ 0
 
 -- a port that shows nothing

@@ -69,6 +69,7 @@ pub record TermPut (old new : Design) (id : ℕ) (t : Term) : Type 0 where
 pub record StmtPut (old new : Design) (id : ℕ) (t : tree.Stmt) : Type 0 where
   pub grows : Grows old new
   pub has : HasStmt new id t
+  pub past : length old.stmts ≤ id
 
 -- the words of a port's memory can be read at the address that the signal x has
 pub record CanRead (d : Design) (q : Port) (x : SigId) : Type 0 where

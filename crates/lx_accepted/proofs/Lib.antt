@@ -1,0 +1,7 @@
+mod Each
+pub mod Faultless
+mod Grown
+mod Own
+mod Rows
+mod Stayed
+mod Tails
