@@ -1,0 +1,13 @@
+pub mod Blocks
+pub mod Evaluating
+pub mod Firsts
+pub mod Moments
+pub mod Orders
+pub mod Plans
+pub mod Ready
+pub mod Said
+pub mod Settled
+pub mod Settling
+pub mod Words
+pub mod Worked
+pub mod Writing

@@ -1,0 +1,9 @@
+pub mod Bits
+pub mod Clips
+pub mod Cuts
+pub mod Digits
+pub mod Shapes
+pub mod Standing
+pub mod Steps
+pub mod Tables
+pub mod Words

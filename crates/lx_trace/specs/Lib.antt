@@ -1,0 +1,10 @@
+pub mod Numbers
+pub mod Cutoff
+pub mod Cuts
+pub mod Pieces
+pub mod Directories
+pub mod Laws
+pub mod Lines
+pub mod Reading
+pub mod Traces
+pub mod Worked
