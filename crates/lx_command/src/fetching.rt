@@ -1,6 +1,6 @@
 //! The bytes of a file, or why there are none.
 
-ghost use Rattle.std.specs.Prelude.{◌≡◌};
+ghost use Rattle.std.specs.Prelude.{◌≡◌, ◌≤◌};
 ghost use Rattle.lx_command.specs.Fetching.{Fetched, IsNotBuilt};
 
 use lx_outside::{LoadFault, Source};
@@ -31,13 +31,15 @@ pub fn whole(kind: Kind) -> Fault
     Fault { line: 0, kind }
 }
 
-/// The bytes of the file of this name.
+/// The bytes of the file of this name. The source's files stay, and its count of faults never falls.
 pub fn fetch<'a, S: Source>(
     alloc: Global,
     name: &'a [u8],
     src: &mut S,
 ) -> Result<List<u8>, Stop<'a>>
-    ensures { Fetched name.now (S.files src.old) (S.faults src.old) (S.faults src.new) result }
+    ensures fetched { Fetched name.now (S.files src.old) (S.faults src.old) (S.faults src.new) result }
+    ensures files_stay { S.files src.new ≡ S.files src.old }
+    ensures never_falls { S.faults src.old ≤ S.faults src.new }
 {
     match src.load(alloc, name, MAX_BYTES) {
         Ok(bytes) => Ok(bytes),

@@ -1,5 +1,6 @@
 -- From the same files a command goes on in one way.
 use Rattle.std.proofs.Common.{◌≡◌, ℕ, true, false, List, [], ◌∷◌, Result, Ok, Err, refl, sym, ◌∙◌, subst, map, inl, inr, ◌⊎◌}
+use Rattle.lx_text.specs.Limits.{max_bytes}
 use Rattle.lx_text.specs.declared.faults.Fault.{Fault}
 use Rattle.lx_token.specs.declared.tokens.Token.{Token}
 use Rattle.lx_grammar.specs.Derives.{Tree, IsTreeOf}
@@ -14,10 +15,11 @@ use Rattle.lx_command.specs.Commands.{Build, Map, Sim, Poke, Gen}
 use Rattle.lx_command.specs.Judging.{HasTree, HasTextFault}
 use Rattle.lx_command.specs.Lines.{not_built}
 use Rattle.lx_translate.specs.Translation.{HasFault}
-use Rattle.lx_top.specs.Meaning.{Says, IsBuilt, IsRefusedFor, Meaning, Built}
-use Rattle.lx_command.specs.Next.{Next, Then, SameNext}
+use Rattle.lx_top.specs.Meaning.{Says, IsBuilt, IsRefusedFor, Meaning, Built, Simulated, Answered}
+use Rattle.lx_command.specs.Next.{Next, Wants, Then, SameNext}
 use Rattle.lx_top.specs.Modules.{is_module}
-use Rattle.lx_top.specs.Table.{IsOneAnswerLaw}
+use Rattle.lx_running.proofs.Alike.{no_trace_fault}
+use Rattle.lx_top.specs.Table.{IsOneAnswerLaw, WantsTrace}
 use Rattle.lx_top.proofs.Flat.{flat_alike, module_alike}
 
 -- a text has one tree
@@ -34,7 +36,7 @@ no_text_fault bytes t f h (inr e) =
     e.none t (subst (λ (ts : List Token). IsTreeOf (map (item_of bytes) ts) t) same h.derived)
 
 -- a text says one thing
-says_one : (bytes : List ℕ) (r s : Result Description Fault) → Says bytes r → Says bytes s → r ≡ s
+pub says_one : (bytes : List ℕ) (r s : Result Description Fault) → Says bytes r → Says bytes s → r ≡ s
 says_one bytes r s p q =
     let said : elaborated (classes bytes q.tree) ≡ r = subst (λ (t : Tree). elaborated (classes bytes t) ≡ r) (same_tree bytes p.tree q.tree p.has q.has) p.says in
     let other = q.says in
@@ -68,14 +70,34 @@ same_then file M on n m one same (inr p) (inr q) = same p.0 q.0 p.1 q.1 p.2 q.2
 both_built : (x y : Description) (n m : Next) → Built x n → Built y m → SameNext n m
 both_built x y n m p q = rw (p.2, q.2) tt
 
+-- ---- traces
+
+both_want : (trace : List ℕ) (n m : Next) → n ≡ Wants trace max_bytes → m ≡ Wants trace max_bytes → SameNext n m
+both_want trace n m p q = rw (p, q) (refl, refl)
+
+both_answered : (x y : List ℕ) (n m : Next) → Answered x n → Answered y m → SameNext n m
+both_answered x y n m p q = rw (p, q) tt
+
+-- a trace that is answered has no fault
+answered_or_not : (d : Description) (lines text : List ℕ) (f : Fault) → Simulated d lines (Ok text) → Simulated d lines (Err f) → ⊥
+answered_or_not d lines text f p q = no_trace_fault p.0.design q.0.design lines text f (flat_alike d p.0 q.0 p.1 q.1) p.2 q.2
+
+both_run : (trace lines bytes : List ℕ) (n m : Next) (x y : Description) → Meaning bytes (Ok x) → Meaning bytes (Ok y) → Then trace (Simulated x lines) Answered n → Then trace (Simulated y lines) Answered m → SameNext n m
+both_run trace lines bytes n m x y a b p q =
+    let e = says_one bytes (Ok x) (Ok y) a.0 b.0 in
+    let same : x ≡ y = cc in
+    same_then trace (Simulated y lines) Answered n m (answered_or_not y lines) (λ t u _ _ g h. both_answered t u n m g h) (subst (λ (d : Description). Then trace (Simulated d lines) Answered n) same p) q
+
 pub one_answer : IsOneAnswerLaw
 one_answer (Build source) [] n m p q = rw (p, q) (refl, refl)
 one_answer (Build source) (bytes ∷ []) n m p q = same_then source (Meaning bytes) Built n m (no_fault bytes) (λ x y _ _ a b. both_built x y n m a b) p q
 one_answer (Build source) (bytes ∷ more ∷ rest) n m p q = absurd p
 one_answer (Map source) [] n m p q = rw (p, q) refl
 one_answer (Map source) (bytes ∷ had) n m p q = absurd p
-one_answer (Sim source trace) [] n m p q = rw (p, q) refl
-one_answer (Sim source trace) (bytes ∷ had) n m p q = absurd p
+one_answer (Sim source trace) [] n m p q = rw (p, q) (refl, refl)
+one_answer (Sim source trace) (bytes ∷ []) n m p q = same_then source (Meaning bytes) (WantsTrace trace) n m (no_fault bytes) (λ x y _ _ a b. both_want trace n m a b) p q
+one_answer (Sim source trace) (lines ∷ bytes ∷ []) n m p q = both_run trace lines bytes n m p.0 q.0 p.1 q.1 p.2 q.2
+one_answer (Sim source trace) (more ∷ lines ∷ bytes ∷ rest) n m p q = absurd p
 one_answer (Poke source script) [] n m p q = rw (p, q) refl
 one_answer (Poke source script) (bytes ∷ had) n m p q = absurd p
 one_answer (Gen size) [] n m p q = rw (p, q) refl

@@ -1,5 +1,5 @@
 -- A run's end, from what its parts did.
-use Rattle.std.proofs.Common.{◌≡◌, ℕ, ◌≤◌, List, [], ◌∷◌, Option, Some, Result, Ok, Err, refl, sym, ap, subst, ◌∙◌, length, codes, true, false, inl, inr, ◌⊎◌}
+use Rattle.std.proofs.Common.{◌≡◌, ℕ, ◌≤◌, List, [], ◌∷◌, Option, Some, Result, Ok, Err, refl, sym, ap, subst, ◌∙◌, length, codes, inl, inr, ◌⊎◌}
 use Rattle.lx_text.specs.declared.faults.Fault.{Fault}
 use Rattle.lx_text.specs.declared.faults.Refusal.{Refusal}
 use Rattle.lx_text.specs.declared.faults.Refusal.TheVariants as refusal
@@ -11,27 +11,20 @@ use Rattle.lx_command.specs.declared.fetching.Stop.TheVariants as stop
 use Rattle.lx_command.specs.declared.status.Status.{Status}
 use Rattle.lx_command.specs.declared.status.Status.TheVariants as status
 use Rattle.lx_command.specs.declared.texts.Texts.{Texts}
-use Rattle.lx_command.specs.Commands.{Asked, Build, Map, Sim, Poke, Gen}
+use Rattle.lx_command.specs.Commands.{Asked, Build, Map, Poke, Gen}
 use Rattle.lx_command.specs.Delivery.{Delivers}
 use Rattle.lx_command.specs.Fetching.{Fetched, IsNotBuilt, IsReport}
-use Rattle.lx_command.specs.Judging.{IsTreeOfText, Judges}
 use Rattle.lx_command.specs.Lines.{build_files, summary_text, no_memory_line, not_built}
 use Rattle.lx_command.specs.Next.{Next, Wants, Refuses, Gives, Then}
 use Rattle.lx_command.specs.World.{World, Has, LacksFile, IsLongFile, IsUntouched, Tells}
-use Rattle.lx_pytree.specs.declared.tree.Tree.{Tree}
-use Rattle.lx_pytree.specs.Reading.{tree_of}
-use Rattle.lx_syntax.specs.Classes.{classes}
 use Rattle.lx_description.specs.declared.description.Description.{Description}
-use Rattle.lx_fsm.specs.Flattened.{IsWithout}
-use Rattle.lx_describe.specs.Answers.{Answers}
-use Rattle.lx_elab.specs.Elaboration.{elaborated}
 use Rattle.lx_translate.specs.Translation.{Translates}
-use Rattle.lx_top.specs.Meaning.{Says, Meaning, Built}
+use Rattle.lx_top.specs.Meaning.{Meaning, Built}
 use Rattle.lx_top.specs.Table.{Step}
 use Rattle.lx_top.specs.Outcome.{Comes, EndsBy}
-use Rattle.lx_top.specs.Making.{Builds, Describes, DescribesFile, Flattened, Makes}
-use Rattle.lx_top.specs.Modules.{is_module}
+use Rattle.lx_top.specs.Making.{Builds, Describes, DescribesFile, IsModuleOf, Makes, Reads}
 use Rattle.lx_top.proofs.Flat.{same_top}
+use Rattle.lx_top.proofs.Reading.{circuit_fault, means}
 
 -- a build wants its description
 wants : (told : Option (List Pair)) (source : List ℕ) → Comes told (Build source) (Wants source max_bytes)
@@ -43,11 +36,14 @@ behind told source bytes n has short step =
     record { had = bytes ∷ []; reached = (tt, record { name = source; limit = max_bytes; wanted = refl; loaded = has; short = short }); step = step }
 
 -- the texts of what was fetched, or why it has none
-pub makes_from : (told : Option (List Pair)) (source bytes : List ℕ) (before now : ℕ) (r : Result Texts Stop) → Has told source bytes → length bytes ≤ max_bytes → DescribesFile source bytes r → Makes (Build source) told before now r
-makes_from told source bytes before now (Ok t) has short d = behind told source bytes (Gives t.files t.text) has short d
-makes_from told source bytes before now (Err (stop.Read file)) has short d = absurd d
-makes_from told source bytes before now (Err (stop.Fault file f)) has short d = inl (behind told source bytes (Refuses file.now f) has short d)
-makes_from told source bytes before now (Err stop.NoMemory) has short d = tt
+makes_of : (told : Option (List Pair)) (source bytes : List ℕ) (before now : ℕ) (r : Result Texts Stop) → Has told source bytes → length bytes ≤ max_bytes → DescribesFile source bytes r → Makes (Build source) told before now r
+makes_of told source bytes before now (Ok t) has short d = behind told source bytes (Gives t.files t.text) has short d
+makes_of told source bytes before now (Err (stop.Read file)) has short d = absurd d
+makes_of told source bytes before now (Err (stop.Fault file f)) has short d = inl (behind told source bytes (Refuses file.now f) has short d)
+makes_of told source bytes before now (Err stop.NoMemory) has short d = tt
+
+pub makes_from : (told : Option (List Pair)) (source bytes given : List ℕ) (before now : ℕ) (r : Result Texts Stop) → Has told source bytes → length bytes ≤ max_bytes → given ≡ bytes → DescribesFile source given r → Makes (Build source) told before now r
+makes_from told source bytes given before now r has short same d = makes_of told source bytes before now r has short (subst (λ (b : List ℕ). DescribesFile source b r) same d)
 
 -- why nothing was fetched
 pub makes_none : (told : Option (List Pair)) (source : List ℕ) (before now : ℕ) (s : Stop) → Fetched source told before now (Err s) → Makes (Build source) told before now (Err s)
@@ -94,38 +90,22 @@ gives_file name bytes t d = inr d
 pub refuses_file : (name bytes : List ℕ) (f : Fault) → Meaning bytes (Err f) → Then name (Meaning bytes) Built (Refuses name f)
 refuses_file name bytes f m = inl (f, m, refl)
 
--- a fault of the text
-pub text_fault : (bytes : List ℕ) (r : Refusal) → Judges bytes (Err r) → Describes bytes (Err r)
-text_fault bytes (refusal.Fault f) j = inl j
-text_fault bytes refusal.NoMemory j = tt
+pub not_read : (bytes : List ℕ) (r : Refusal) → Reads bytes (Err r) → Describes bytes (Err r)
+not_read bytes (refusal.Fault f) h = h
+not_read bytes refusal.NoMemory h = tt
 
-says_of : (bytes : List ℕ) (t : Tree) (r : Result Description Fault) → IsTreeOfText bytes t → elaborated (classes bytes (tree_of t)) ≡ r → Says bytes r
-says_of bytes t r has says = record { tree = tree_of t; has = has.has; says = says }
+-- what is made of its module
+pub described : (bytes : List ℕ) (e : Description) (r : Result Texts Refusal) → IsModuleOf bytes e → Builds e r → Describes bytes r
+described bytes e (Ok t) m b = (m.described, means bytes e m b.faultless, (t.files, (e, m.flat, (b.written, b.is, b.files)), ap (Gives t.files) (b.text ∙ ap summary_text (same_top m.described e m.flat))))
+described bytes e (Err (refusal.Fault f)) m b = circuit_fault bytes e f m b
+described bytes e (Err refusal.NoMemory) m b = tt
 
--- a fault of what the text describes
-pub said_fault : (bytes : List ℕ) (t : Tree) (r : Refusal) → IsTreeOfText bytes t → Answers (Err r) (elaborated (classes bytes (tree_of t))) → Describes bytes (Err r)
-said_fault bytes t (refusal.Fault f) has a = inr (inl (says_of bytes t (Err f) has a))
-said_fault bytes t refusal.NoMemory has a = tt
+pub built_from : (e : Description) (made : List ℕ) (t : Texts) → Translates e.design (Ok made) → t.files ≡ build_files made → t.text ≡ summary_text e.top → Builds e (Ok t)
+built_from e made t is same said = record { faultless = is.0; written = made; is = is.1; files = same; text = said }
 
--- what is made of a description
-pub described : (bytes : List ℕ) (t : Tree) (d : Description) (r : Result Texts Refusal) → IsTreeOfText bytes t → Answers (Ok d) (elaborated (classes bytes (tree_of t))) → Builds d r → Describes bytes r
-described bytes t d (Ok x) has a b = (d, (says_of bytes t (Ok d) has a, b.0), b.1)
-described bytes t d (Err (refusal.Fault f)) has a b = inr (inr (d, says_of bytes t (Ok d) has a, b))
-described bytes t d (Err refusal.NoMemory) has a b = tt
-
-pub built_from : (d e : Description) (made : List ℕ) (t : Texts) → is_module e ≡ true → IsWithout d e → Translates e.design (Ok made) → t.files ≡ build_files made → t.text ≡ summary_text e.top → Builds d (Ok t)
-built_from d e made t fit w is same said = ((e, w, fit, is.0), (t.files, (e, w, (made, is.1, same)), ap (Gives t.files) (said ∙ ap summary_text (same_top d e w))))
-
-pub not_translated : (d e : Description) (r : Refusal) → is_module e ≡ true → IsWithout d e → Translates e.design (Err r) → Builds d (Err r)
-not_translated d e (refusal.Fault f) fit w is = (e, w, inr (fit, is))
-not_translated d e refusal.NoMemory fit w is = tt
-
-pub no_module : (d e : Description) → is_module e ≡ false → IsWithout d e → Builds d (Err (refusal.Fault not_built))
-no_module d e other w = (e, w, inl (other, refl))
-
-pub not_flat : (d : Description) (r : Refusal) → Flattened d (Err r) → Builds d (Err r)
-not_flat d (refusal.Fault f) h = absurd h
-not_flat d refusal.NoMemory h = tt
+pub not_translated : (e : Description) (r : Refusal) → Translates e.design (Err r) → Builds e (Err r)
+not_translated e (refusal.Fault f) is = is
+not_translated e refusal.NoMemory is = tt
 
 -- a command that isn't built
 unbuilt : (told : Option (List Pair)) (c : Asked) (word : List ℕ) (before now : ℕ) (s : Stop) → Step c [] (Refuses word not_built) → IsNotBuilt word s → Makes c told before now (Err s)
@@ -136,9 +116,6 @@ unbuilt told c word before now stop.NoMemory step is = absurd is
 
 pub makes_map : (told : Option (List Pair)) (source : List ℕ) (before now : ℕ) (s : Stop) → IsNotBuilt (codes "map") s → Makes (Map source) told before now (Err s)
 makes_map told source before now s is = unbuilt told (Map source) (codes "map") before now s refl is
-
-pub makes_sim : (told : Option (List Pair)) (source trace : List ℕ) (before now : ℕ) (s : Stop) → IsNotBuilt (codes "sim") s → Makes (Sim source trace) told before now (Err s)
-makes_sim told source trace before now s is = unbuilt told (Sim source trace) (codes "sim") before now s refl is
 
 pub makes_poke : (told : Option (List Pair)) (source script : List ℕ) (before now : ℕ) (s : Stop) → IsNotBuilt (codes "poke") s → Makes (Poke source script) told before now (Err s)
 makes_poke told source script before now s is = unbuilt told (Poke source script) (codes "poke") before now s refl is

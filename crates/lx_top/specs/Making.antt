@@ -1,19 +1,26 @@
 -- What making the texts of a command answers.
-use Rattle.std.specs.Prelude.{ℕ, List, Option, Result, Ok, Err, ◌⊎◌}
+use Rattle.std.specs.Prelude.{◌≡◌, ℕ, ◌≤◌, true, List, Option, Result, Ok, Err, length, ◌⊎◌}
 use Rattle.lx_outside.specs.declared.calls.Pair.{Pair}
 use Rattle.lx_outside.specs.Calls.{Rose}
+use Rattle.lx_text.specs.Limits.{max_bytes}
+use Rattle.lx_text.specs.declared.faults.Fault.{Fault}
 use Rattle.lx_text.specs.declared.faults.Refusal.{Refusal}
 use Rattle.lx_text.specs.declared.faults.Refusal.TheVariants as refusal
+use Rattle.lx_fhdl.specs.declared.design.Design.{Design}
 use Rattle.lx_description.specs.declared.description.Description.{Description}
 use Rattle.lx_fsm.specs.Flattened.{IsWithout}
+use Rattle.lx_translate.specs.Translation.{HasFault, IsFaultless, IsTextOf}
+use Rattle.lx_running.specs.Traced.{Traced}
 use Rattle.lx_command.specs.declared.fetching.Stop.{Stop}
 use Rattle.lx_command.specs.declared.fetching.Stop.TheVariants as stop
 use Rattle.lx_command.specs.declared.texts.Texts.{Texts}
 use Rattle.lx_command.specs.Commands.{Asked}
-use Rattle.lx_command.specs.Next.{Wants, Refuses, Gives, Then}
-use Rattle.lx_command.specs.World.{LacksFile}
-use Rattle.lx_top.specs.Meaning.{Meaning, Built, IsBuilt, IsRefusedFor}
-use Rattle.lx_top.specs.Outcome.{Comes, IsAtFault}
+use Rattle.lx_command.specs.Lines.{build_files, summary_text, too_long}
+use Rattle.lx_command.specs.Next.{Next, Wants, Refuses, Gives, Then}
+use Rattle.lx_command.specs.World.{Has, LacksFile, IsLongFile}
+use Rattle.lx_top.specs.Meaning.{Answered, Built, IsRefusedFor, Meaning, Says, Simulated}
+use Rattle.lx_top.specs.Modules.{is_module}
+use Rattle.lx_top.specs.Outcome.{Comes}
 
 -- What taking the FSMs of a description for their statements answers.
 abbrev pub Flattened : Description → Result Description Refusal → Type 0
@@ -21,11 +28,40 @@ Flattened d (Ok e) = IsWithout d e
 Flattened d (Err (refusal.Fault f)) = ⊥
 Flattened d (Err refusal.NoMemory) = Unit {0}
 
--- What making the texts of a description answers.
+-- What making a description a module answers: the module, or that it is more.
+abbrev pub Modules : Description → Result Description Refusal → Type 0
+Modules d (Ok e) = IsWithout d e × (is_module e ≡ true)
+Modules d (Err (refusal.Fault f)) = IsRefusedFor d f
+Modules d (Err refusal.NoMemory) = Unit {0}
+
+-- the bytes describe this module
+pub record IsModuleOf (bytes : List ℕ) (e : Description) : Type 0 where
+  pub described : Description
+  pub says : Says bytes (Ok described)
+  pub flat : IsWithout described e
+  pub fit : is_module e ≡ true
+
+-- What reading the module of a description's bytes answers.
+abbrev pub Reads : List ℕ → Result Description Refusal → Type 0
+Reads bytes (Ok e) = IsModuleOf bytes e
+Reads bytes (Err (refusal.Fault f)) = Meaning bytes (Err f)
+Reads bytes (Err refusal.NoMemory) = Unit {0}
+
+-- ---- build
+
+-- the files and the summary of a module without a fault
+pub record AreTextsOf (e : Description) (t : Texts) : Type 0 where
+  pub faultless : IsFaultless e.design
+  pub written : List ℕ
+  pub is : IsTextOf e.design written
+  pub files : t.files ≡ build_files written
+  pub text : t.text ≡ summary_text e.top
+
+-- What making the texts of a module answers.
 abbrev pub Builds : Description → Result Texts Refusal → Type 0
-Builds d (Ok t) = IsBuilt d × Built d (Gives t.files t.text)
-Builds d (Err (refusal.Fault f)) = IsRefusedFor d f
-Builds d (Err refusal.NoMemory) = Unit {0}
+Builds e (Ok t) = AreTextsOf e t
+Builds e (Err (refusal.Fault f)) = HasFault e.design f
+Builds e (Err refusal.NoMemory) = Unit {0}
 
 -- What making the texts of a description's bytes answers.
 abbrev pub Describes : List ℕ → Result Texts Refusal → Type 0
@@ -33,16 +69,53 @@ Describes bytes (Ok t) = (d : Description) × Meaning bytes (Ok d) × Built d (G
 Describes bytes (Err (refusal.Fault f)) = Meaning bytes (Err f)
 Describes bytes (Err refusal.NoMemory) = Unit {0}
 
--- The same of a file of this name.
-abbrev pub DescribesFile : List ℕ → List ℕ → Result Texts Stop → Type 0
-DescribesFile name bytes (Ok t) = Then name (Meaning bytes) Built (Gives t.files t.text)
-DescribesFile name bytes (Err (stop.Read _)) = ⊥
-DescribesFile name bytes (Err (stop.Fault file f)) = Then name (Meaning bytes) Built (Refuses file.now f)
-DescribesFile name bytes (Err stop.NoMemory) = Unit {0}
+-- Texts or a fault come next, as `next` says; nothing more is loaded.
+abbrev pub Ends : (Next → Type 0) → Result Texts Stop → Type 0
+Ends next (Ok t) = next (Gives t.files t.text)
+Ends next (Err (stop.Read _)) = ⊥
+Ends next (Err (stop.Fault file f)) = next (Refuses file.now f)
+Ends next (Err stop.NoMemory) = Unit {0}
 
--- What making the texts of a command answers, over the files that are told, with the counts of the source before and after.
+-- What making the texts of a description's file of this name answers.
+abbrev pub DescribesFile : List ℕ → List ℕ → Result Texts Stop → Type 0
+DescribesFile name bytes r = Ends (Then name (Meaning bytes) Built) r
+
+-- ---- more files
+
+-- What a run that may load more answers, where `next` says what comes next, over the files that are told, with the counts of the
+-- source before and after.
+abbrev pub EndsLater : (Next → Type 0) → Option (List Pair) → ℕ → ℕ → Result Texts Stop → Type 0
+EndsLater next told before now (Ok t) = next (Gives t.files t.text)
+EndsLater next told before now (Err (stop.Read name)) = (limit : ℕ) × next (Wants name.now limit) × (Rose before now ⊎ LacksFile told name.now)
+EndsLater next told before now (Err (stop.Fault file f)) = next (Refuses file.now f) ⊎ ((limit : ℕ) × next (Wants file.now limit) × IsLongFile told file.now limit × (f ≡ too_long))
+EndsLater next told before now (Err stop.NoMemory) = Unit {0}
+
+-- What making the texts of a command answers.
 abbrev pub Makes : Asked → Option (List Pair) → ℕ → ℕ → Result Texts Stop → Type 0
-Makes c told before now (Ok t) = Comes told c (Gives t.files t.text)
-Makes c told before now (Err (stop.Read name)) = (limit : ℕ) × Comes told c (Wants name.now limit) × (Rose before now ⊎ LacksFile told name.now)
-Makes c told before now (Err (stop.Fault file f)) = IsAtFault told c file.now f
-Makes c told before now (Err stop.NoMemory) = Unit {0}
+Makes c told before now r = EndsLater (Comes told c) told before now r
+
+-- A file of this name is wanted; or it was loaded, and `on` says what comes behind its bytes.
+abbrev pub Loading : Option (List Pair) → List ℕ → (List ℕ → Next → Type 0) → Next → Type 0
+Loading told name on n = (n ≡ Wants name max_bytes) ⊎ ((bytes : List ℕ) × Has told name bytes × (length bytes ≤ max_bytes) × on bytes n)
+
+-- ---- sim
+
+-- the lines of a trace are answered, or refused
+abbrev pub Runs : Design → List ℕ → List ℕ → Next → Type 0
+Runs d trace lines n = Then trace (Traced d lines) Answered n
+
+-- the same of the trace of this name
+abbrev pub RunsFile : Option (List Pair) → Design → List ℕ → Next → Type 0
+RunsFile told d trace n = Loading told trace (Runs d trace) n
+
+-- a circuit is refused for its first fault, or its trace is run
+abbrev pub RunsCircuit : Option (List Pair) → List ℕ → List ℕ → Design → Next → Type 0
+RunsCircuit told source trace d n = ((f : Fault) × HasFault d f × (n ≡ Refuses source f)) ⊎ (IsFaultless d × RunsFile told d trace n)
+
+-- the same of a description, whose circuit has the statements of its FSMs
+abbrev pub RunsTrace : Option (List Pair) → List ℕ → Description → Next → Type 0
+RunsTrace told trace d n = Loading told trace (λ lines. Then trace (Simulated d lines) Answered) n
+
+-- the same of its bytes
+abbrev pub RunsBytes : Option (List Pair) → List ℕ → List ℕ → List ℕ → Next → Type 0
+RunsBytes told source trace bytes n = Then source (Meaning bytes) (RunsTrace told trace) n

@@ -1,5 +1,5 @@
--- What a description is, and the files that are made of it. No other file names either.
-use Rattle.std.specs.Prelude.{◌≡◌, ℕ, true, false, List, Result, Ok, Err, ◌⊎◌}
+-- What a description is, the files that are made of it, and what it answers to a trace. No other file names these.
+use Rattle.std.specs.Prelude.{◌≡◌, ℕ, true, false, List, [], Result, Ok, Err, ◌⊎◌}
 use Rattle.lx_outside.specs.declared.calls.Pair.{Pair}
 use Rattle.lx_text.specs.declared.faults.Fault.{Fault}
 use Rattle.lx_grammar.specs.Derives.{Tree}
@@ -8,6 +8,7 @@ use Rattle.lx_description.specs.declared.description.Description.{Description}
 use Rattle.lx_fsm.specs.Flattened.{IsWithout}
 use Rattle.lx_elab.specs.Elaboration.{elaborated}
 use Rattle.lx_translate.specs.Translation.{IsFaultless, HasFault, IsTextOf}
+use Rattle.lx_running.specs.Traced.{Traced}
 use Rattle.lx_command.specs.Judging.{HasTree, HasTextFault}
 use Rattle.lx_command.specs.Lines.{build_files, summary_text, not_built}
 use Rattle.lx_command.specs.Next.{Next, Gives}
@@ -39,3 +40,11 @@ Files d files = (e : Description) × IsWithout d e × ((text : List ℕ) × IsTe
 -- its files are stored, and its summary is said
 abbrev pub Built : Description → Next → Type 0
 Built d n = (files : List Pair) × Files d files × (n ≡ Gives files (summary_text d.top))
+
+-- what the description's circuit, with the statements of its FSMs, answers to a trace; or the trace's first fault
+abbrev pub Simulated : Description → List ℕ → Result (List ℕ) Fault → Type 0
+Simulated d trace r = (e : Description) × IsWithout d e × Traced e.design trace r
+
+-- nothing is stored, and the answers are said
+abbrev pub Answered : List ℕ → Next → Type 0
+Answered text n = n ≡ Gives [] text

@@ -8,5 +8,5 @@ pub mod modules;
 pub mod run;
 
 pub use entry::program;
-pub use laws::{completeness_law, giving_law, one_answer_law};
+pub use laws::{completeness_law, giving_law, one_answer_law, one_text_law};
 pub use run::lxb;

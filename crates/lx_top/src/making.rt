@@ -1,11 +1,12 @@
 //! The texts of a command are made, before anything is stored.
 
-ghost use Rattle.std.specs.Prelude.{◌≡◌, ℕ, List, []};
+ghost use Rattle.std.specs.Prelude.{◌≡◌, ◌≤◌, ℕ, List, [], length};
 ghost use Rattle.lx_text.specs.declared.faults.Fault.{Fault};
+ghost use Rattle.lx_fhdl.specs.Keeping.{Keeps};
 ghost use Rattle.lx_fsm.specs.Flattened.{CanFlatten, fsm_faults};
-ghost use Rattle.lx_command.specs.Commands.{Build, asked_of};
+ghost use Rattle.lx_command.specs.Commands.{Build, Sim, asked_of};
 ghost use Rattle.lx_command.specs.Next.{Refuses};
-ghost use Rattle.lx_top.specs.Making.{Builds, Describes, DescribesFile, Flattened, Makes};
+ghost use Rattle.lx_top.specs.Making.{Builds, Describes, DescribesFile, Ends, EndsLater, Flattened, Makes, Modules, Reads, Runs, RunsBytes, RunsCircuit, RunsFile};
 ghost use Rattle.lx_top.specs.Table.{Step};
 
 use crate::modules::is_module;
@@ -17,12 +18,13 @@ use lx_description::Description;
 use lx_elab::elaborate;
 use lx_fsm::without_fsms;
 use lx_outside::Source;
-use lx_text::{Kind, Refusal};
+use lx_running::Runner;
+use lx_text::{Kind, List, Refusal};
 use lx_translate::top_v;
 use std::alloc::Global;
 
 /// The texts of a command. One that isn't built yet touches no file.
-#[tactic(auto, using(crate::proofs::Endings::makes_map, crate::proofs::Endings::makes_sim, crate::proofs::Endings::makes_poke, crate::proofs::Endings::makes_gen))]
+#[tactic(auto, using(crate::proofs::Endings::makes_map, crate::proofs::Endings::makes_poke, crate::proofs::Endings::makes_gen))]
 pub fn make<'a, S: Source>(
     alloc: Global,
     command: Command<'a>,
@@ -34,7 +36,7 @@ pub fn make<'a, S: Source>(
     match command {
         Command::Build(source) => build(alloc, source, src),
         Command::Map(_) => Err(not_built(b"map")),
-        Command::Sim(_, _) => Err(not_built(b"sim")),
+        Command::Sim(source, trace) => simulate(alloc, source, trace, src),
         Command::Poke(_, _) => Err(not_built(b"poke")),
         Command::Gen(_) => Err(not_built(b"gen")),
     }
@@ -64,13 +66,51 @@ fn describe_file<'a>(alloc: Global, name: &'a [u8], bytes: &[u8]) -> Result<Text
 }
 
 // The texts of a description's bytes; or the first fault of its text, of what it describes, or of its circuit.
-#[tactic(auto, using(crate::proofs::Endings::text_fault, crate::proofs::Endings::said_fault, crate::proofs::Endings::described, crate::proofs::Flat::no_fsm_faults))]
+#[tactic(auto, using(crate::proofs::Endings::not_read, crate::proofs::Endings::described, crate::proofs::Reading::module_keeps))]
 fn describe(alloc: Global, bytes: &[u8]) -> Result<Texts, Refusal>
     ensures { Describes bytes.now result }
 {
+    let flat = read_module(alloc, bytes)?;
+    texts_of(alloc, &flat)
+}
+
+// The texts of a module; or the fault of its circuit.
+#[tactic(auto, using(crate::proofs::Endings::built_from, crate::proofs::Endings::not_translated))]
+fn texts_of(alloc: Global, flat: &Description) -> Result<Texts, Refusal>
+    requires { Keeps flat.now.design }
+    ensures { Builds flat.now result }
+{
+    let text = top_v(alloc, &flat.design)?;
+    let files = files_of(alloc, text)?;
+    let text = summary_of(alloc, flat.top.as_bytes())?;
+    Ok(Texts { files, text })
+}
+
+// ---- modules
+
+// The module that a description's bytes describe, with the statements of its FSMs in their places; or the first fault of its
+// text or of what it describes, or that it isn't built yet.
+#[tactic(auto, using(crate::proofs::Reading::text_fault, crate::proofs::Reading::said_fault, crate::proofs::Reading::read, crate::proofs::Flat::no_fsm_faults))]
+fn read_module(alloc: Global, bytes: &[u8]) -> Result<Description, Refusal>
+    ensures { Reads bytes.now result }
+{
     let tree = judge(alloc, bytes)?;
     let description = elaborate(alloc, bytes, &tree)?;
-    texts_of(alloc, description)
+    module_of(alloc, description)
+}
+
+// The description with the statements of its FSMs in their places; or that its parts are not built yet.
+#[tactic(auto, using(crate::proofs::Reading::no_module, crate::proofs::Reading::not_flat))]
+fn module_of(alloc: Global, description: Description) -> Result<Description, Refusal>
+    requires can { CanFlatten description }
+    requires faultless { fsm_faults description ≡ [] }
+    ensures { Modules description result }
+{
+    let flat = flat_of(alloc, description)?;
+    if !is_module(&flat) {
+        return Err(Refusal::Fault(whole(Kind::NotYetBuilt)));
+    }
+    Ok(flat)
 }
 
 // The description with the statements of its FSMs in their places.
@@ -83,19 +123,94 @@ fn flat_of(alloc: Global, description: Description) -> Result<Description, Refus
     without_fsms(alloc, description)
 }
 
-// The texts of a description; or the fault of its circuit, or that its parts are not built yet.
-#[tactic(auto, using(crate::proofs::Flat::flat_keeps, crate::proofs::Endings::built_from, crate::proofs::Endings::not_translated, crate::proofs::Endings::no_module, crate::proofs::Endings::not_flat))]
-fn texts_of(alloc: Global, description: Description) -> Result<Texts, Refusal>
-    requires can { CanFlatten description }
-    requires faultless { fsm_faults description ≡ [] }
-    ensures { Builds description result }
+// ---- sim
+
+// The answers of the description of this name to the trace of this name. The trace is loaded once the description has no fault.
+#[tactic(auto, using(crate::proofs::Simulating::sim_from, crate::proofs::Simulating::sim_none))]
+fn simulate<'a, S: Source>(
+    alloc: Global,
+    source: &'a [u8],
+    trace: &'a [u8],
+    src: &mut S,
+) -> Result<Texts, Stop<'a>>
+    ensures { Makes (Sim source.now trace.now) (S.files src.old) (S.faults src.old) (S.faults src.new) result }
 {
-    let flat = flat_of(alloc, description)?;
-    if !is_module(&flat) {
-        return Err(Refusal::Fault(whole(Kind::NotYetBuilt)));
+    match fetch(alloc, source, src) {
+        Ok(bytes) => run_bytes(alloc, source, bytes.as_slice(), trace, src),
+        Err(stop) => Err(stop),
     }
-    let text = top_v(alloc, &flat.design)?;
-    let files = files_of(alloc, text)?;
-    let text = summary_of(alloc, flat.top.as_bytes())?;
-    Ok(Texts { files, text })
+}
+
+// The answers of a description's bytes.
+#[tactic(auto, using(crate::proofs::Simulating::bytes_run, crate::proofs::Simulating::bytes_refused, crate::proofs::Reading::module_keeps))]
+fn run_bytes<'a, S: Source>(
+    alloc: Global,
+    source: &'a [u8],
+    bytes: &[u8],
+    trace: &'a [u8],
+    src: &mut S,
+) -> Result<Texts, Stop<'a>>
+    ensures { EndsLater (RunsBytes (S.files src.old) source.now trace.now bytes.now) (S.files src.old) (S.faults src.old) (S.faults src.new) result }
+{
+    match read_module(alloc, bytes) {
+        Ok(flat) => run_module(alloc, source, &flat, trace, src),
+        Err(Refusal::Fault(fault)) => Err(Stop::Fault(source, fault)),
+        Err(Refusal::NoMemory) => Err(Stop::NoMemory),
+    }
+}
+
+// The answers of a module.
+#[tactic(auto, using(crate::proofs::Simulating::circuit_run, crate::proofs::Simulating::circuit_refused))]
+fn run_module<'a, S: Source>(
+    alloc: Global,
+    source: &'a [u8],
+    flat: &Description,
+    trace: &'a [u8],
+    src: &mut S,
+) -> Result<Texts, Stop<'a>>
+    requires { Keeps flat.now.design }
+    ensures { EndsLater (RunsCircuit (S.files src.old) source.now trace.now flat.now.design) (S.files src.old) (S.faults src.old) (S.faults src.new) result }
+{
+    match Runner::new(alloc, &flat.design) {
+        Ok(runner) => run_file(alloc, &runner, trace, src),
+        Err(Refusal::Fault(fault)) => Err(Stop::Fault(source, fault)),
+        Err(Refusal::NoMemory) => Err(Stop::NoMemory),
+    }
+}
+
+// The answers of a circuit to the trace of this name.
+#[tactic(auto, using(crate::proofs::Simulating::loaded, crate::proofs::Simulating::not_loaded))]
+fn run_file<'a, S: Source>(
+    alloc: Global,
+    runner: &Runner<'_>,
+    trace: &'a [u8],
+    src: &mut S,
+) -> Result<Texts, Stop<'a>>
+    ensures { EndsLater (RunsFile (S.files src.old) runner.now trace.now) (S.files src.old) (S.faults src.old) (S.faults src.new) result }
+{
+    match fetch(alloc, trace, src) {
+        Ok(lines) => run_lines(alloc, runner, trace, lines.as_slice()),
+        Err(stop) => Err(stop),
+    }
+}
+
+// The answers of a circuit to the lines of the trace of this name.
+#[tactic(auto, using(crate::proofs::Simulating::lines_run, crate::proofs::Simulating::lines_refused))]
+fn run_lines<'a>(
+    alloc: Global,
+    runner: &Runner<'_>,
+    trace: &'a [u8],
+    lines: &[u8],
+) -> Result<Texts, Stop<'a>>
+    requires { length lines.now ≤ 1048576 }
+    ensures { Ends (Runs runner.now trace.now lines.now) result }
+{
+    match runner.answers(alloc, lines) {
+        Ok(text) => Ok(Texts {
+            files: List::new(alloc),
+            text,
+        }),
+        Err(Refusal::Fault(fault)) => Err(Stop::Fault(trace, fault)),
+        Err(Refusal::NoMemory) => Err(Stop::NoMemory),
+    }
 }

@@ -153,7 +153,7 @@ names_is d =
     ap (λ (r : List Name). unless (port_fault d r d.ios) (all_given (r ++ names.port_names d d.ios) (names.all_wishes d))) (reserved_is d)
     ∙ ap (λ (o : Option Fault). unless o (all_given (reserved_from d.signals d.domains ++ names.port_names d d.ios) (names.all_wishes d))) (port_fault_is d (reserved_from d.signals d.domains) d.ios)
 
-same_names : (a b : Design) → AreAlike a b → names_of a ≡ names_of b
+pub same_names : (a b : Design) → AreAlike a b → names_of a ≡ names_of b
 same_names a b h =
     names_is a ∙ ap (λ (c : Circuit). names_from c a.signals a.ios a.domains a.memories) h.circuit
     ∙ ap (λ (ss : List Signal). names_from (circuit_of b) ss a.ios a.domains a.memories) h.signals

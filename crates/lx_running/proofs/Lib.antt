@@ -1,0 +1,5 @@
+pub mod Alike
+pub mod Answering
+pub mod Marks
+pub mod Once
+pub mod Runners
