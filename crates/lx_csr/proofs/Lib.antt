@@ -1,0 +1,12 @@
+pub mod Apart
+pub mod Counting
+pub mod Following
+pub mod Frames
+pub mod Housing
+pub mod Levels
+pub mod Lists
+pub mod Peripherals
+pub mod Rising
+pub mod Rows
+pub mod Steps
+pub mod Taking

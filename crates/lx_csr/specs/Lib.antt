@@ -1,0 +1,11 @@
+pub mod CWords
+pub mod Names
+pub mod Places
+pub mod Collected
+pub mod Gathered
+pub mod Walked
+pub mod Defined
+pub mod Faults
+pub mod Mapped
+pub mod Laws
+pub mod Worked

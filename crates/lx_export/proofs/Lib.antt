@@ -1,0 +1,5 @@
+pub mod Files
+pub mod Interrupts
+pub mod Joined
+pub mod Places
+pub mod Rows

@@ -1,0 +1,7 @@
+use Rattle.std.proofs.Common.{◌≡◌, ◌++◌, take}
+use Rattle.std.specs.Prelude.{flat_map}
+use Rattle.lx_export.specs.Listing.{region_line}
+use Rattle.lx_export.proofs.lines.put_regions.Given as goal
+
+abbrev pub invariant-loop-region : goal.invariant-loop-region
+invariant-loop-region l = l.out ≡ l.initial.out ++ flat_map region_line (take l.region-index l.regions)

@@ -1,0 +1,4 @@
+pub mod Told
+pub mod Placing
+pub mod Kept
+pub mod Rows

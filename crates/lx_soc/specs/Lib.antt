@@ -1,0 +1,3 @@
+pub mod Told
+pub mod Surveyed
+pub mod Worked
