@@ -1,3 +1,3 @@
-class A(Module):
+class A(SoCCore):
     def __init__(self):
-        self.register = CSRStorage(8)
+        super().__init__()

@@ -1,11 +1,16 @@
 pub mod Arguments
 pub mod Calls
 pub mod Domains
+pub mod Events
 pub mod Exprs
 pub mod Fsms
 pub mod Memories
 pub mod Numbers
 pub mod Objects
+pub mod Registers
 pub mod Sequences
 pub mod Signals
+pub mod Systems
 pub mod Worked
+pub mod WorkedRegisters
+pub mod WorkedSystems

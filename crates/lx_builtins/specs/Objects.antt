@@ -1,5 +1,5 @@
 -- Built-in names and methods of statements and modules.
-use Rattle.std.specs.Prelude.{ℕ, Bool, true, false, if◌then◌else◌, List, [], ◌∷◌, slice_get, Option, Some, None, is_some, codes}
+use Rattle.std.specs.Prelude.{ℕ, Bool, true, false, ◌||◌, if◌then◌else◌, List, [], ◌∷◌, slice_get, Option, Some, None, is_some, codes}
 use Rattle.lx_text.specs.declared.faults.Kind.TheVariants as kind
 use Rattle.lx_fhdl.specs.Below.{ExprId}
 use Rattle.lx_state.specs.declared.machine.Machine.{Machine}
@@ -13,12 +13,13 @@ use Rattle.lx_objects.specs.Modules.{module_of}
 use Rattle.lx_objects.specs.Statements.{elif_made, else_made, if_made}
 use Rattle.lx_ops.specs.Attributes.{attribute_of, is_system}
 use Rattle.lx_ops.specs.Exprs.{expr_of}
-use Rattle.lx_ops.specs.Places.{bind_at}
+use Rattle.lx_ops.specs.Places.{bind_at, manager_of}
 use Rattle.lx_ops.specs.Targets.{assign}
 use Rattle.lx_ops.specs.declared.places.Holder.{Holder}
 use Rattle.lx_ops.specs.declared.places.Holder.TheVariants as holder
 use Rattle.lx_ops.specs.declared.places.Part.{Part}
 use Rattle.lx_builtins.specs.Arguments.{identifier_of, no_argument, one, three, two, unnamed}
+use Rattle.lx_builtins.specs.Systems.{options_called}
 use Rattle.lx_builtins.specs.declared.arguments.Arguments.{Arguments}
 
 -- ---- statements
@@ -80,8 +81,9 @@ abbrev pub held_by : Option Part → Value → Holder
 held_by (Some p) o = holder.Part p
 held_by None o = holder.Plain o
 
+-- attributes are bound on modules and event managers
 abbrev pub can_hold : Machine → Holder → Bool
-can_hold m (holder.Plain o) = is_some (module_of m o)
+can_hold m (holder.Plain o) = is_some (module_of m o) || is_some (manager_of m o)
 can_hold m (holder.Part p) = true
 
 unfoldable pub holds_attributes : ℕ → Holder → Step (Unit {0})
@@ -131,6 +133,6 @@ plain_init line args = do
   _ ← no_argument line args
   give value.Nothing
 
--- `super().__init__()`; the options of a system are not built
+-- `super().__init__()`, with the options of a system
 unfoldable pub init_called : ℕ → ℕ → Arguments → Step Value
-init_called line at args m = if is_system_there (slice_get m.modules at) then fault line kind.NotYetBuilt m else plain_init line args m
+init_called line at args m = if is_system_there (slice_get m.modules at) then options_called line args m else plain_init line args m

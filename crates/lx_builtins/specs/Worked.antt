@@ -270,5 +270,5 @@ pub record AreExpressed : Type 0 where
   pub array_of_nothing : value_of (call builtin.Array (value.List 0 ∷ []) some) ≡ at_nine kind.WrongCount
   pub bad_name : value_of (call builtin.SetAttr (value.Object 0 ∷ value.Text 0 ∷ a ∷ []) (record top { texts = named.texts })) ≡ at_nine kind.BadKey
   pub unbound : value_of (call builtin.GetAttr (value.Object 0 ∷ value.Text 1 ∷ []) top) ≡ at_nine (kind.UnknownName (codes "c"))
-  pub not_built : value_of (call builtin.CsrStorage (int 8 ∷ []) some) ≡ at_nine kind.NotYetBuilt
+  pub region_without_size : value_of (call builtin.SocRegion (int 8 ∷ []) some) ≡ at_nine kind.WrongCount
   pub mode : value_of (call builtin.ReadFirst [] some) ≡ at_nine kind.WrongKind

@@ -6,6 +6,7 @@ ghost use Rattle.lx_builtins.specs.Calls.{builtin_called, method_called};
 
 use crate::arguments::Arguments;
 use crate::domains::{clock_domain_called, multireg_called};
+use crate::events::{event_manager_called, finalize_called, source_called, source_process_called};
 use crate::exprs::{array_called, cat_called, constant_called, mux_called, replicate_called};
 use crate::fsms::{act_called, fsm_called, next_state_called, next_value_called, ongoing_called};
 use crate::memories::{get_port_called, memory_called};
@@ -16,14 +17,22 @@ use crate::objects::{
     case_called, elif_called, else_called, eq_called, getattr_called, if_called, init_called,
     setattr_called, super_called,
 };
+use crate::registers::{
+    csr_called, csr_constant_called, csr_field_called, csr_status_called, csr_storage_called,
+};
 use crate::sequences::{enumerate_called, len_called, list_called, reversed_called, zip_called};
 use crate::signals::signal_called;
+use crate::systems::{
+    add_bank_called, add_constant_called, add_interrupt_called, add_slave_called, interface_called,
+    region_called, store_called,
+};
+use lx_description::SourceKind;
 use lx_state::work::fault;
 use lx_state::{Builtin, Machine, Method, Value};
 use lx_text::{Kind, Refusal};
 use std::alloc::Global;
 
-/// Calls a built-in name. The modes of ports and `wishbone` can't be called, and what isn't built yet says so.
+/// Calls a built-in name. The modes of ports and `wishbone` can't be called.
 #[tactic(auto, unfolding(crate::specs::Calls::builtin_called))]
 pub fn builtin_called(
     machine: &mut Machine,
@@ -65,11 +74,20 @@ pub fn builtin_called(
         Builtin::Fsm => fsm_called(machine, alloc, line, &args),
         Builtin::NextState => next_state_called(machine, alloc, line, &args),
         Builtin::NextValue => next_value_called(machine, alloc, line, &args),
+        Builtin::Csr => csr_called(machine, alloc, line, &args),
+        Builtin::CsrStorage => csr_storage_called(machine, alloc, line, &args),
+        Builtin::CsrStatus => csr_status_called(machine, alloc, line, &args),
+        Builtin::CsrConstant => csr_constant_called(machine, alloc, line, &args),
+        Builtin::CsrField => csr_field_called(machine, alloc, line, &args),
+        Builtin::EventManager => event_manager_called(machine, alloc, line, &args),
+        Builtin::EventSourcePulse => source_called(machine, alloc, line, SourceKind::Pulse, &args),
+        Builtin::EventSourceProcess => source_process_called(machine, alloc, line, &args),
+        Builtin::EventSourceLevel => source_called(machine, alloc, line, SourceKind::Level, &args),
         Builtin::WriteFirst => Err(fault(line, Kind::WrongKind)),
         Builtin::ReadFirst => Err(fault(line, Kind::WrongKind)),
         Builtin::NoChange => Err(fault(line, Kind::WrongKind)),
+        Builtin::SocRegion => region_called(machine, alloc, line, &args),
         Builtin::Wishbone => Err(fault(line, Kind::WrongKind)),
-        _ => Err(fault(line, Kind::NotYetBuilt)),
     }
 }
 
@@ -88,9 +106,17 @@ pub fn method_called(
         Method::Eq(id) => eq_called(machine, alloc, line, id, &args),
         Method::Elif(at) => elif_called(machine, alloc, line, at, args),
         Method::Else(at) => else_called(machine, alloc, line, at, args),
-        Method::Init(at) => init_called(machine, line, at, &args),
+        Method::Init(at) => init_called(machine, alloc, line, at, &args),
         Method::Act(at) => act_called(machine, alloc, line, at, args),
         Method::Ongoing(at) => ongoing_called(machine, alloc, line, at, &args),
         Method::GetPort(at) => get_port_called(machine, alloc, line, at, &args),
+        Method::Finalize => finalize_called(machine, line, &args),
+        Method::Interface => interface_called(machine, alloc, line, &args),
+        Method::AddRam => store_called(machine, alloc, line, true, &args),
+        Method::AddRom => store_called(machine, alloc, line, false, &args),
+        Method::AddConstant => add_constant_called(machine, alloc, line, &args),
+        Method::AddSlave => add_slave_called(machine, alloc, line, &args),
+        Method::AddBank => add_bank_called(machine, alloc, line, &args),
+        Method::AddInterrupt => add_interrupt_called(machine, alloc, line, &args),
     }
 }

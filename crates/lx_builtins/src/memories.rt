@@ -96,7 +96,7 @@ fn contents_of(
 }
 
 #[tactic(auto, unfolding(crate::specs::Memories::contents_looked_at))]
-fn contents_looked_at(
+pub(crate) fn contents_looked_at(
     machine: &Machine,
     alloc: Global,
     line: u32,
@@ -311,7 +311,7 @@ fn call_looked_at(
 }
 
 // The contents, of which there are none where none are given.
-fn contents_or(
+pub(crate) fn contents_or(
     machine: &Machine,
     alloc: Global,
     line: u32,

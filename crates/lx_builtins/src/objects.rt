@@ -5,11 +5,13 @@ ghost use Rattle.lx_state.specs.Step.{Gives};
 ghost use Rattle.lx_builtins.specs.Objects.{can_hold, case_called, elif_called, elif_from, elif_under, else_called, eq_called, getattr_called, held_by, holds_attributes, if_called, if_from, if_under, init_called, is_system_there, plain_init, setattr_called, setattr_on, super_called, super_of, this_super};
 
 use crate::arguments::{Arguments, identifier_of, no_argument, one, three, two, unnamed};
+use crate::systems::options_called;
 use lx_fhdl::ExprId;
 use lx_objects::cases::case_made;
 use lx_objects::modules::module_of;
 use lx_objects::statements::{elif_made, else_made, if_made};
 use lx_ops::attributes::is_system;
+use lx_ops::places::manager_of;
 use lx_ops::{Holder, Part, assign, attribute_of, bind_at, expr_of};
 use lx_state::work::fault;
 use lx_state::{Machine, Value};
@@ -162,7 +164,7 @@ fn can_hold(machine: &Machine, holder: Holder) -> bool
     ensures { result ≡ can_hold machine.now holder }
 {
     match holder {
-        Holder::Plain(of) => module_of(machine, of).is_some(),
+        Holder::Plain(of) => module_of(machine, of).is_some() || manager_of(machine, of).is_some(),
         Holder::Part(_) => true,
     }
 }
@@ -268,18 +270,19 @@ fn plain_init(machine: &Machine, line: u32, args: &Arguments) -> Result<Value, R
     Ok(Value::Nothing)
 }
 
-/// `super().__init__()`; the options of a system are not built.
+/// `super().__init__()`, with the options of a system.
 #[tactic(auto, unfolding(crate::specs::Objects::init_called))]
 pub fn init_called(
-    machine: &Machine,
+    machine: &mut Machine,
+    alloc: Global,
     line: u32,
     at: usize,
     args: &Arguments,
 ) -> Result<Value, Refusal>
-    ensures { Gives result machine.now (init_called line at args.now machine.now) }
+    ensures { Gives result machine.new (init_called line at args.now machine.old) }
 {
     if is_system_there(machine, at) {
-        return Err(fault(line, Kind::NotYetBuilt));
+        return options_called(machine, alloc, line, args);
     }
     plain_init(machine, line, args)
 }

@@ -71,7 +71,7 @@ fn span(low: i128, high: i128) -> StatedShape
     }
 }
 
-fn named_only(alloc: Global, name: &[u8]) -> Result<Param, NoMemory>
+pub(crate) fn named_only(alloc: Global, name: &[u8]) -> Result<Param, NoMemory>
     ensures { IfOk result (λ param. param ≡ named_only name.now) }
 {
     Ok(Param {
@@ -255,7 +255,7 @@ fn signal_shape(
     }
 }
 
-fn name_given(
+pub(crate) fn name_given(
     machine: &Machine,
     alloc: Global,
     line: u32,

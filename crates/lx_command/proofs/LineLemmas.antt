@@ -32,7 +32,7 @@ second_part : (old mid new : Option (List ℕ)) (a b : List ℕ) → Gains old m
 second_part old mid new a b p q =
     (length a + q.0, gains_both old mid new a (take q.0 b) p q.1 ∙ ap (λ (x : List ℕ). option_map (λ xs. xs ++ x) old) (sym (take-append-add a b q.0)))
 
-rose_later : (a b c : ℕ) → a ≤ b → Rose b c → Rose a c
+pub rose_later : (a b c : ℕ) → a ≤ b → Rose b c → Rose a c
 rose_later a b c le r = omega arith
 
 pub says_second : (old mid new : Option (List ℕ)) (f1 f2 f3 : ℕ) (a b : List ℕ) → f1 ≤ f2 → Gains old mid a → SaysLine mid new f2 f3 b → SaysLine old new f1 f3 (a ++ b)

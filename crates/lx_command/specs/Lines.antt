@@ -1,18 +1,9 @@
--- The files that are stored, and the lines that are said.
-use Rattle.std.specs.Prelude.{ℕ, List, [], ◌∷◌, ◌++◌, codes}
+-- The lines that are said.
+use Rattle.std.specs.Prelude.{ℕ, List, ◌++◌, codes}
 use Rattle.lx_text.specs.declared.faults.Fault.{Fault}
 use Rattle.lx_text.specs.declared.faults.Kind.TheVariants as kind
-use Rattle.lx_outside.specs.declared.calls.Pair.{Pair}
-use Rattle.lx_outside.specs.Calls.{pair}
 use Rattle.lx_command.specs.declared.lines.Line.{Line}
 use Rattle.lx_command.specs.declared.lines.Line.TheVariants as line
-
-abbrev pub top_v : List ℕ
-top_v = codes "top.v"
-
--- what a build stores, in order
-abbrev pub build_files : List ℕ → List Pair
-build_files text = pair top_v text ∷ []
 
 -- what a build says of a circuit without a bus
 abbrev pub summary_text : List ℕ → List ℕ

@@ -1,6 +1,5 @@
 pub mod Answering
 mod Asked
-mod Bound
 mod Named
 mod Pathed
 mod Placed

@@ -1,4 +1,4 @@
--- A design whose signals got their paths, and the states of FSMs their bits, keeps what its arenas kept.
+-- A design whose signals got their paths, and some of them bits that were not known before, keeps what its arenas kept.
 use Rattle.std.proofs.Common.{◌≡◌, ℕ, ◌+◌, Bool, true, false, List, [], ◌∷◌, length, refl, sym, ap, ◌∙◌, subst, zero, suc, arith}
 use Rattle.std.specs.Prelude.{Option, Some, None, is_some, map, slice_get, slice_index_or}
 use Rattle.std.specs.List.{list_all}
@@ -14,14 +14,14 @@ use Rattle.lx_fhdl.specs.declared.design.Design.{Design}
 use Rattle.lx_fhdl.specs.declared.design.Domain.{Domain}
 use Rattle.lx_fhdl.specs.declared.design.Signal.{Signal}
 use Rattle.lx_fragments.specs.declared.fragments.Fragments.{Fragments}
-use Rattle.lx_state.specs.declared.machine.Fsm.{Fsm}
 use Rattle.lx_state.specs.declared.machine.Machine.{Machine}
 use Rattle.lx_kept.specs.Given.{HasArenas}
 use Rattle.lx_paths.specs.Paths.{owner_path}
-use Rattle.lx_describe.specs.Apart.{expr_passes, is_state, owner_fsm, states_are_apart, target_passes}
+use Rattle.lx_describe.specs.Apart.{all_apart, expr_passes, is_late, late_bits, target_passes}
 use Rattle.lx_describe.specs.Describing.{design_of, named_of}
 use Rattle.lx_describe.specs.Memories.{named_memories}
-use Rattle.lx_describe.specs.Signals.{named_signal, named_signals, with_bits, with_path}
+use Rattle.lx_describe.specs.Signals.{named_signal, named_signals, with_bits, with_bus, with_path}
+use Rattle.lx_describe.specs.Systems.{is_bus_given}
 use Rattle.lx_describe.specs.declared.describing.Named.{Named}
 use Rattle.lx_describe.proofs.Unnamed.{SameElsewhere, arenas_kept}
 
@@ -31,24 +31,29 @@ path_apart : (path : List (List ℕ)) (s : Signal) → (with_path path s).shape 
 path_apart [] s = refl
 path_apart (w ∷ ws) s = refl
 
-bits_apart : (f : Option Fsm) (s : Signal) → is_some f ≡ false → with_bits f s ≡ s
+bits_apart : (bits : Option ℕ) (s : Signal) → is_some bits ≡ false → with_bits bits s ≡ s
 bits_apart None s e = refl
-bits_apart (Some f) s e = absurd (cc)
+bits_apart (Some b) s e = absurd (cc)
 
--- a path leaves the shape, and so do the bits where it is no state of an FSM
-one_same : (m : Machine) (x : ℕ) (s : Signal) → is_state m x ≡ false → (named_signal m x s).shape ≡ s.shape
+bus_apart : (b : Bool) (s : Signal) → (with_bus b s).shape ≡ s.shape
+bus_apart false s = refl
+bus_apart true s = refl
+
+-- a path leaves the shape, and so do the bus, and the bits where they were known
+one_same : (m : Machine) (x : ℕ) (s : Signal) → is_late m x ≡ false → (named_signal m x s).shape ≡ s.shape
 one_same m x s e =
-    ap (λ (t : Signal). t.shape) (bits_apart (owner_fsm m (slice_get m.owners x)) (with_path (owner_path m (slice_get m.owners x)) s) e)
+    bus_apart (is_bus_given m (slice_get m.owners x)) (with_bits (late_bits m (slice_get m.owners x)) (with_path (owner_path m (slice_get m.owners x)) s))
+    ∙ ap (λ (t : Signal). t.shape) (bits_apart (late_bits m (slice_get m.owners x)) (with_path (owner_path m (slice_get m.owners x)) s) e)
     ∙ path_apart (owner_path m (slice_get m.owners x)) s
 
 abbrev shape_at : List Signal → ℕ → Shape
 shape_at ss x = (slice_index_or (map made_of ss) x nothing).shape
 
-each_same : (m : Machine) (from k : ℕ) (ss : List Signal) → is_state m (from + k) ≡ false → shape_at (named_signals m from ss) k ≡ shape_at ss k
+each_same : (m : Machine) (from k : ℕ) (ss : List Signal) → is_late m (from + k) ≡ false → shape_at (named_signals m from ss) k ≡ shape_at ss k
 unfolding named_signals
 each_same m from k [] e = refl
-each_same m from zero (s ∷ ss) e = let here : from + 0 ≡ from = omega arith in one_same m from s (ap (is_state m) (sym here) ∙ e)
-each_same m from (suc k) (s ∷ ss) e = let next : (from + 1) + k ≡ from + suc k = omega arith in each_same m (from + 1) k ss (ap (is_state m) next ∙ e)
+each_same m from zero (s ∷ ss) e = let here : from + 0 ≡ from = omega arith in one_same m from s (ap (is_late m) (sym here) ∙ e)
+each_same m from (suc k) (s ∷ ss) e = let next : (from + 1) + k ≡ from + suc k = omega arith in each_same m (from + 1) k ss (ap (is_late m) next ∙ e)
 
 named_long : (m : Machine) (from : ℕ) (ss : List Signal) → length (named_signals m from ss) ≡ length ss
 unfolding named_signals
@@ -61,11 +66,11 @@ same_elsewhere : (m : Machine) (d e : Design) → e.signals ≡ named_signals m 
 unfolding circuit_of
 same_elsewhere m d e is x h =
     let from : 0 + x ≡ x = omega arith in
-    ap (λ (ss : List Signal). shape_at ss x) is ∙ each_same m 0 x d.signals (ap (is_state m) from ∙ h)
+    ap (λ (ss : List Signal). shape_at ss x) is ∙ each_same m 0 x d.signals (ap (is_late m) from ∙ h)
 
--- the signals and memories of a machine whose states are apart leave what the arenas keep
+-- the signals and memories of a machine of which nothing names a signal whose bits were not known leave what the arenas keep
 pub finished : (m : Machine) (d e : Design) (named : Named) (fragments : Fragments) (domains : List Domain) (ios : List SigId)
-    → states_are_apart m ≡ true → d ≡ m.shaped → DraftKeeps d → named ≡ named_of m → e ≡ design_of d named fragments domains ios → HasArenas e
+    → all_apart m ≡ true → d ≡ m.shaped → DraftKeeps d → named ≡ named_of m → e ≡ design_of d named fragments domains ios → HasArenas e
 finished m d e named fragments domains ios apart is keep named_is made =
     let passes = and_parts (list_all (expr_passes m) m.shaped.exprs) (list_all (target_passes m) m.shaped.targets) apart in
     let old : Design = m.shaped in

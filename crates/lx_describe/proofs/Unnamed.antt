@@ -31,7 +31,7 @@ use Rattle.lx_fhdl.proofs.StmtTrees.{target_at-is}
 use Rattle.lx_fhdl.proofs.Trees.{term_at-is}
 use Rattle.lx_fhdl.proofs.Wider.{SameShapes, indices_kept}
 use Rattle.lx_state.specs.declared.machine.Machine.{Machine}
-use Rattle.lx_describe.specs.Apart.{expr_passes, is_state, target_passes}
+use Rattle.lx_describe.specs.Apart.{expr_passes, is_late, target_passes}
 
 either : (a b : Bool) (P : Type 0) → (a ≡ true → P) → (b ≡ true → P) → (a || b) ≡ true → P
 either a b P f g e =
@@ -44,33 +44,33 @@ is_not : (b : Bool) → not b ≡ true → b ≡ false
 is_not true e = absurd (cc)
 is_not false e = refl
 
-not_at : (m : Machine) (y x : ℕ) → not (is_state m y) ≡ true → y ≡ x → is_state m x ≡ false
-not_at m y x a e = subst (λ (k : ℕ). is_state m k ≡ false) e (is_not (is_state m y) a)
+not_at : (m : Machine) (y x : ℕ) → not (is_late m y) ≡ true → y ≡ x → is_late m x ≡ false
+not_at m y x a e = subst (λ (k : ℕ). is_late m k ≡ false) e (is_not (is_late m y) a)
 
 passes_at : {T : Type 0} (f : T → Bool) (xs : List T) → list_all f xs ≡ true → (k : ℕ) (x : T) → slice_get xs k ≡ Some x → f x ≡ true
 passes_at f [] all k x e = absurd (cc)
 passes_at f (y ∷ ys) all zero x e = let p = and_parts (f y) (list_all f ys) all in let same : y ≡ x = cc in subst (λ z. f z ≡ true) same p.0
 passes_at f (y ∷ ys) all (suc k) x e = passes_at f ys (and_parts (f y) (list_all f ys) all).1 k x e
 
--- ---- no expression names the state of an FSM
+-- ---- no expression names a signal whose bits are known late
 
 abbrev NamesNone : Machine → Term → Type 0
-NamesNone m t = (x : ℕ) → names (At x) t ≡ true → is_state m x ≡ false
+NamesNone m t = (x : ℕ) → names (At x) t ≡ true → is_late m x ≡ false
 
-terms_name : (m : Machine) (t : ℕ → Term) (is : List ExprId) → EachPlace (λ j. NamesNone m (t j)) is → (x : ℕ) → some_names (At x) (terms_at t is) ≡ true → is_state m x ≡ false
+terms_name : (m : Machine) (t : ℕ → Term) (is : List ExprId) → EachPlace (λ j. NamesNone m (t j)) is → (x : ℕ) → some_names (At x) (terms_at t is) ≡ true → is_late m x ≡ false
 terms_name m t [] h x e = absurd (cc)
-terms_name m t (i ∷ is) h x e = either (names (At x) (t i.place)) (some_names (At x) (terms_at t is)) (is_state m x ≡ false) (h.0 x) (terms_name m t is h.1 x) e
+terms_name m t (i ∷ is) h x e = either (names (At x) (t i.place)) (some_names (At x) (terms_at t is)) (is_late m x ≡ false) (h.0 x) (terms_name m t is h.1 x) e
 
 node_names : (m : Machine) (t : ℕ → Term) (y : Expr) → expr_passes m y ≡ true → EachChild (λ j. NamesNone m (t j)) y → NamesNone m (node_term t y)
 node_names m t (Const value bits signed) a h x e = absurd (cc)
 node_names m t (Sig y) a h x e = not_at m y.0 x a (eqb-true y.0 x e)
 node_names m t (Unary op of) a h x e = h x e
-node_names m t (Binary op left right) a h x e = either (names (At x) (t left.place)) (names (At x) (t right.place)) (is_state m x ≡ false) (h.0 x) (h.1 x) e
+node_names m t (Binary op left right) a h x e = either (names (At x) (t left.place)) (names (At x) (t right.place)) (is_late m x ≡ false) (h.0 x) (h.1 x) e
 node_names m t (Mux cond then_ else_) a h x e =
     let both = names (At x) (t then_.place) || names (At x) (t else_.place) in
-    either (names (At x) (t cond.place)) both (is_state m x ≡ false) (h.0 x) (λ p. either (names (At x) (t then_.place)) (names (At x) (t else_.place)) (is_state m x ≡ false) (h.1.0 x) (h.1.1 x) p) e
+    either (names (At x) (t cond.place)) both (is_late m x ≡ false) (h.0 x) (λ p. either (names (At x) (t then_.place)) (names (At x) (t else_.place)) (is_late m x ≡ false) (h.1.0 x) (h.1.1 x) p) e
 node_names m t (Cat parts) a h x e = terms_name m t parts h x e
-node_names m t (Pick items index) a h x e = either (some_names (At x) (terms_at t items)) (names (At x) (t index.place)) (is_state m x ≡ false) (terms_name m t items h.0 x) (h.1 x) e
+node_names m t (Pick items index) a h x e = either (some_names (At x) (terms_at t items)) (names (At x) (t index.place)) (is_late m x ≡ false) (terms_name m t items h.0 x) (h.1 x) e
 node_names m t (Replicate of count) a h x e = h x e
 node_names m t (Slice of low high) a h x e = h x e
 node_names m t (Fetch memory width at) a h x e = absurd (cc)
@@ -97,13 +97,13 @@ named_apart m n ms other (Fetch memory width at) a h = absurd (cc)
 -- ---- no target mentions one
 
 abbrev MentionsNone : Machine → tree.Target → Type 0
-MentionsNone m t = (x : ℕ) → target_mentions (At x) t ≡ true → is_state m x ≡ false
+MentionsNone m t = (x : ℕ) → target_mentions (At x) t ≡ true → is_late m x ≡ false
 
-targets_none : (m : Machine) (k : ℕ) (g : ℕ → tree.Target) (is : List TargetId) → all_targets_below k is ≡ true → ((j : ℕ) → j < k → MentionsNone m (g j)) → (x : ℕ) → targets_mention (At x) (targets_at g is) ≡ true → is_state m x ≡ false
+targets_none : (m : Machine) (k : ℕ) (g : ℕ → tree.Target) (is : List TargetId) → all_targets_below k is ≡ true → ((j : ℕ) → j < k → MentionsNone m (g j)) → (x : ℕ) → targets_mention (At x) (targets_at g is) ≡ true → is_late m x ≡ false
 targets_none m k g [] l h x e = absurd (cc)
 targets_none m k g (i ∷ is) l h x e =
     let p = and_parts (nat_lt i.place k) (all_targets_below k is) l in
-    either (target_mentions (At x) (g i.place)) (targets_mention (At x) (targets_at g is)) (is_state m x ≡ false) (h i.place (ltb-true i.place k p.0) x) (targets_none m k g is p.1 h x) e
+    either (target_mentions (At x) (g i.place)) (targets_mention (At x) (targets_at g is)) (is_late m x ≡ false) (h i.place (ltb-true i.place k p.0) x) (targets_none m k g is p.1 h x) e
 
 node_none : (m : Machine) (s : Shapes) (n k : ℕ) (xs : List Expr) (g : ℕ → tree.Target) (y : Target) → TargetStands s n xs y → target_passes m y ≡ true → ((j : ℕ) → j < length xs → NamesNone m (term_at xs j)) → target_below y k ≡ true
     → ((j : ℕ) → j < k → MentionsNone m (g j)) → MentionsNone m (node_target (term_at xs) g y)
@@ -111,7 +111,7 @@ node_none m s n k xs g (target.Whole y) a b f l h x e = not_at m y.0 x b (eqb-tr
 node_none m s n k xs g (target.Part y low len) a b f l h x e = not_at m y.0 x b (eqb-true y.0 x e)
 node_none m s n k xs g (target.Cat parts) a b f l h x e = targets_none m k g parts l h x e
 node_none m s n k xs g (target.Pick items index) a b f l h x e =
-    either (targets_mention (At x) (targets_at g items)) (names (At x) (term_at xs index.place)) (is_state m x ≡ false) (targets_none m k g items l h x) (f index.place a.1 x) e
+    either (targets_mention (At x) (targets_at g items)) (names (At x) (term_at xs index.place)) (is_late m x ≡ false) (targets_none m k g items l h x) (f index.place a.1 x) e
 
 -- ---- shapes that are the same elsewhere
 
@@ -119,9 +119,9 @@ no_values : Values
 no_values p = pos 0
 
 abbrev pub SameElsewhere : Machine → Shapes → Shapes → Type 0
-SameElsewhere m s t = (x : ℕ) → is_state m x ≡ false → t x ≡ s x
+SameElsewhere m s t = (x : ℕ) → is_late m x ≡ false → t x ≡ s x
 
-alike : (m : Machine) (s t : Shapes) (p : Place → Bool) → SameElsewhere m s t → ((x : ℕ) → p (At x) ≡ true → is_state m x ≡ false) → Alike t s no_values no_values p
+alike : (m : Machine) (s t : Shapes) (p : Place → Bool) → SameElsewhere m s t → ((x : ℕ) → p (At x) ≡ true → is_late m x ≡ false) → Alike t s no_values no_values p
 alike m s t p same none = record { shapes = λ x e. same x (none x e); signals = λ x e. refl; words = λ k j e. refl }
 
 -- what is passed
@@ -148,7 +148,7 @@ targets_kept m s t n ms xs ts ss passed same k l =
 
 stands : (m : Machine) (s t : Shapes) (n : ℕ) (xs : List Expr) (x : Target) → SameElsewhere m s t → SameShapes s t xs xs (length xs) → target_passes m x ≡ true → TargetStands s n xs x → TargetStands t n xs x
 stands m s t n xs (target.Whole x) same e a h = h
-stands m s t n xs (target.Part x low len) same e a h = (h.0, h.1, omega (arith, h.2, ap (λ (b : Shape). b.bits) (same x.0 (is_not (is_state m x.0) a))))
+stands m s t n xs (target.Part x low len) same e a h = (h.0, h.1, omega (arith, h.2, ap (λ (b : Shape). b.bits) (same x.0 (is_not (is_late m x.0) a))))
 stands m s t n xs (target.Cat parts) same e a h = h
 stands m s t n xs (target.Pick items index) same e a h = (h.0, h.1, ap (λ (b : Shape). b.signed) (e index.place h.1) ∙ h.2)
 

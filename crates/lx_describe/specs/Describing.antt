@@ -1,5 +1,5 @@
 -- The description of a machine in which the top was made.
-use Rattle.std.specs.Prelude.{ℕ, Bool, true, false, List, [], map, codes, slice_get, Option, Some, None, if◌then◌else◌}
+use Rattle.std.specs.Prelude.{ℕ, Bool, true, false, List, [], map, codes, slice_get, Option, Some, None}
 use Rattle.lx_text.specs.declared.faults.Kind.TheVariants as kind
 use Rattle.lx_fhdl.specs.declared.design.Design.{Design}
 use Rattle.lx_fhdl.specs.declared.design.Domain.{Domain}
@@ -9,22 +9,23 @@ use Rattle.lx_state.specs.declared.machine.Machine.{Machine}
 use Rattle.lx_state.specs.declared.machine.Module.{Module}
 use Rattle.lx_state.specs.declared.machine.ModuleKind.{ModuleKind}
 use Rattle.lx_state.specs.declared.machine.ModuleKind.TheVariants as bases
-use Rattle.lx_state.specs.Step.{Step, give, fault, or_fault, reads, ◌>>=◌}
+use Rattle.lx_state.specs.Step.{Step, give, or_fault, reads, ◌>>=◌}
 use Rattle.lx_objects.specs.Ios.{ios_of}
 use Rattle.lx_objects.specs.Modules.{module_of, some_attribute}
 use Rattle.lx_fragments.specs.Domains.{domains_made, mention_of}
 use Rattle.lx_fragments.specs.Fragments.{fragments_of}
 use Rattle.lx_fragments.specs.declared.fragments.Fragments.{Fragments}
 use Rattle.lx_description.specs.declared.description.Description.{Description}
-use Rattle.lx_description.specs.Laws.{no_wishes}
 use Rattle.lx_describe.specs.declared.describing.Named.{Named}
 use Rattle.lx_describe.specs.declared.describing.Outline.{Outline}
-use Rattle.lx_describe.specs.Apart.{states_apart}
-use Rattle.lx_describe.specs.Fsms.{all_fsms, object_line}
+use Rattle.lx_describe.specs.Apart.{late_apart}
+use Rattle.lx_describe.specs.Fsms.{all_fsms}
+use Rattle.lx_describe.specs.Managers.{all_have_sources}
 use Rattle.lx_describe.specs.Memories.{named_memories, ports_of}
 use Rattle.lx_describe.specs.Modules.{module_decls, module_text}
 use Rattle.lx_describe.specs.Order.{in_order}
 use Rattle.lx_describe.specs.Signals.{named_signals}
+use Rattle.lx_describe.specs.Systems.{wishes_of}
 
 -- ---- the top
 
@@ -36,17 +37,10 @@ abbrev pub is_soc : ModuleKind → Bool
 is_soc bases.Soc = true
 is_soc _ = false
 
+-- whether a module is one
 abbrev pub is_system : Option Module → Bool
 is_system None = false
 is_system (Some x) = is_soc x.kind
-
-abbrev pub module_line : Machine → Option Module → ℕ
-module_line m None = 0
-module_line m (Some x) = object_line (slice_get m.objects x.object)
-
--- systems are not built yet
-unfoldable pub plain_top : ℕ → Step (Unit {0})
-plain_top top m = if is_system (slice_get m.modules top) then fault (module_line m (slice_get m.modules top)) kind.NotYetBuilt m else give tt m
 
 -- ---- its ports
 
@@ -64,7 +58,7 @@ top_ios top m = some_ios (some_attribute (codes "ios") (slice_get m.modules top)
 unfoldable pub outline_of : Value → Step Outline
 outline_of v = do
   top ← top_of v
-  _ ← plain_top top
+  _ ← all_have_sources
   ios ← top_ios top
   fragments ← fragments_of top
   mentioned ← reads (λ m. map mention_of m.domains)
@@ -87,16 +81,16 @@ design_of d named fragments domains ios = record d {
   ios = ios;
 }
 
--- nothing but the circuit, its modules and its FSMs is built yet
+-- the slaves, the wishes and the constants of a system; a plain top has none
 abbrev pub description_of : Machine → Outline → Description
 description_of m x = record {
   top = module_text m (slice_get m.modules x.top);
-  soc = false;
+  soc = is_system (slice_get m.modules x.top);
   design = design_of m.shaped (named_of m) x.fragments x.domains x.ios;
   modules = module_decls m (in_order m x.top);
-  slaves = [];
-  wishes = no_wishes;
-  constants = [];
+  slaves = m.system.slaves;
+  wishes = wishes_of (is_system (slice_get m.modules x.top)) m.system;
+  constants = m.system.constants;
   fsm_stmts = m.fsm_stmts;
   fsms = x.fsms;
 }
@@ -104,5 +98,5 @@ description_of m x = record {
 unfoldable pub described : Value → Step Description
 described v = do
   x ← outline_of v
-  _ ← states_apart
+  _ ← late_apart
   reads (λ m. description_of m x)

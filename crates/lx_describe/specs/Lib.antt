@@ -2,10 +2,13 @@ pub mod Answers
 pub mod Apart
 pub mod Describing
 pub mod Fsms
+pub mod Managers
 pub mod Memories
 pub mod Modules
 pub mod Order
+pub mod Parts
 pub mod Signals
 pub mod Start
 pub mod Submodules
+pub mod Systems
 pub mod Worked

@@ -1,16 +1,30 @@
--- The submodules of a module: those that its attributes bind, in the order of these, then the others in the order of adding.
-use Rattle.std.specs.Prelude.{ℕ, Bool, false, true, nat_eq, List, [], ◌∷◌, ◌++◌, slice_get, Option, Some, None, if◌then◌else◌}
+-- The submodules of a module: those that its attributes bind themselves, each where it was first bound, then those that were
+-- added without a name, in the order of adding.
+use Rattle.std.specs.Prelude.{ℕ, Bool, true, false, ◌&&◌, not, nat_eq, List, [], ◌∷◌, ◌++◌, flat_map, is_some, slice_get, Option, Some, None, if◌then◌else◌}
 use Rattle.std.specs.List.{list_any}
-use Rattle.lx_state.specs.declared.values.Value.{Value}
 use Rattle.lx_state.specs.declared.machine.Machine.{Machine}
 use Rattle.lx_state.specs.declared.machine.Module.{Module}
-use Rattle.lx_state.specs.declared.machine.Object.{Object}
 use Rattle.lx_state.specs.declared.machine.Submodule.{Submodule}
-use Rattle.lx_state.specs.declared.machine.What.{What}
-use Rattle.lx_state.specs.declared.machine.What.TheVariants as what
-use Rattle.lx_objects.specs.Modules.{module_of}
+use Rattle.lx_objects.specs.Modules.{module_of_object}
 
--- ---- what attributes bind
+-- ---- each object once
+
+abbrev pub is_among : ℕ → List ℕ → Bool
+is_among x xs = list_any (nat_eq x) xs
+
+abbrev pub with_next : ℕ → List ℕ → List ℕ
+with_next x xs = if is_among x xs then xs else xs ++ x ∷ []
+
+-- those that come first, each where it comes first
+unfoldable pub each_once : List ℕ → List ℕ → List ℕ
+each_once before [] = before
+each_once before (x ∷ xs) = each_once (with_next x before) xs
+
+-- the objects that a module's attributes bind themselves
+abbrev pub bound_once : Module → List ℕ
+bound_once x = each_once [] x.bound
+
+-- ---- where a module was added
 
 abbrev pub is_place : ℕ → Option ℕ → Bool
 is_place at None = false
@@ -21,58 +35,36 @@ abbrev pub is_below : ℕ → Option Module → Bool
 is_below at None = false
 is_below at (Some x) = is_place at x.added
 
-abbrev pub bound_module : Machine → ℕ → Option ℕ → List Submodule
-bound_module m at None = []
-bound_module m at (Some k) = if is_below at (slice_get m.modules k) then record { place = k; named = true } ∷ [] else []
+-- ---- with a name
 
--- the submodule that an attribute binds itself
-abbrev pub bound : Machine → ℕ → List ℕ × Value → List Submodule
-bound m at e = bound_module m at (module_of m e.1)
+abbrev pub named_module : Machine → ℕ → Option ℕ → List Submodule
+named_module m at None = []
+named_module m at (Some k) = if is_below at (slice_get m.modules k) then record { place = k; named = true } ∷ [] else []
 
-abbrev pub bound_at : Machine → ℕ → Option (List ℕ × Value) → List Submodule
-bound_at m at None = []
-bound_at m at (Some e) = bound m at e
+-- the submodule that an object is
+abbrev pub named_at : Machine → ℕ → ℕ → List Submodule
+named_at m at object = named_module m at (module_of_object (slice_get m.objects object))
 
-unfoldable pub all_bound : Machine → ℕ → List (List ℕ × Value) → List Submodule
-all_bound m at [] = []
-all_bound m at (e ∷ es) = bound m at e ++ all_bound m at es
+-- ---- without one
 
--- ---- each of them once
+-- what stands for an FSM or an event manager is no module
+abbrev pub is_unnamed : Machine → List ℕ → Option Module → Bool
+is_unnamed m bound None = false
+is_unnamed m bound (Some x) = is_some (module_of_object (slice_get m.objects x.object)) && not (is_among x.object bound)
 
-abbrev pub is_listed : ℕ → List Submodule → Bool
-is_listed at listed = list_any (λ (x : Submodule). nat_eq x.place at) listed
+-- a submodule that is none of these objects
+abbrev pub unnamed_at : Machine → List ℕ → Submodule → List Submodule
+unnamed_at m bound x = if is_unnamed m bound (slice_get m.modules x.place) then record { place = x.place; named = false } ∷ [] else []
 
-abbrev pub with_next : Submodule → List Submodule → List Submodule
-with_next x listed = if is_listed x.place listed then listed else listed ++ x ∷ []
-
-unfoldable pub each_once : List Submodule → List Submodule → List Submodule
-each_once listed [] = listed
-each_once listed (x ∷ xs) = each_once (with_next x listed) xs
-
--- ---- what stands for FSMs
-
-abbrev pub is_fsm : What → Bool
-is_fsm (what.Fsm k) = true
-is_fsm _ = false
-
-abbrev pub object_is_fsm : Option Object → Bool
-object_is_fsm None = false
-object_is_fsm (Some o) = is_fsm o.what
-
-abbrev pub stands_for_fsm : Machine → Option Module → Bool
-stands_for_fsm m None = false
-stands_for_fsm m (Some x) = object_is_fsm (slice_get m.objects x.object)
-
--- an FSM is added as a module is, and is none
-abbrev pub own_modules : Machine → List Submodule → List Submodule
-own_modules m [] = []
-own_modules m (x ∷ xs) = if stands_for_fsm m (slice_get m.modules x.place) then own_modules m xs else x ∷ own_modules m xs
+-- those that no attribute of the module binds
+abbrev pub unnamed_below : Machine → Module → List Submodule
+unnamed_below m x = flat_map (unnamed_at m (bound_once x)) x.submodules
 
 -- ---- the submodules
 
-abbrev pub found : Machine → ℕ → Option Module → List Submodule
-found m at None = []
-found m at (Some x) = all_bound m at x.attributes ++ own_modules m x.submodules
+abbrev pub submodules_of : Machine → ℕ → Option Module → List Submodule
+submodules_of m at None = []
+submodules_of m at (Some x) = flat_map (named_at m at) (bound_once x) ++ unnamed_below m x
 
 abbrev pub submodules : Machine → ℕ → List Submodule
-submodules m at = each_once [] (found m at (slice_get m.modules at))
+submodules m at = submodules_of m at (slice_get m.modules at)

@@ -3,23 +3,24 @@
 ghost use Rattle.std.specs.Prelude.{◌≡◌, [], IfOk, OnOk, codes, slice_get, true};
 ghost use Rattle.lx_objects.specs.Modules.{some_attribute};
 ghost use Rattle.lx_describe.specs.Answers.{Answers, answer};
-ghost use Rattle.lx_describe.specs.Apart.{states_are_apart};
-ghost use Rattle.lx_describe.specs.Describing.{described, description_of, design_of, is_soc, is_system, module_line, named_of, outline_of, plain_top, some_ios, top_ios, top_of};
+ghost use Rattle.lx_describe.specs.Apart.{all_apart};
+ghost use Rattle.lx_describe.specs.Describing.{described, description_of, design_of, is_soc, is_system, named_of, outline_of, top_ios, top_of};
 ghost use Rattle.lx_describe.specs.Modules.{module_decls};
 ghost use Rattle.lx_describe.specs.Order.{in_order};
-ghost use Rattle.lx_description.specs.Laws.{no_wishes};
 ghost use Rattle.lx_fhdl.specs.Drafts.{DraftKeeps};
 ghost use Rattle.lx_kept.specs.Given.{HasArenas};
 ghost use Rattle.lx_state.specs.Step.{Gives};
 
-use crate::apart::states_apart;
-use crate::fsms::{all_fsms, object_line};
+use crate::apart::late_apart;
+use crate::fsms::all_fsms;
+use crate::managers::all_have_sources;
 use crate::memories::{named_memories, ports_of};
 use crate::modules::{module_decls, module_text};
 use crate::order::in_order;
 use crate::signals::named_signals;
+use crate::systems::{Declared, declared_by, no_system};
 use lx_description::{Description, FsmDecl, FsmStmts, ModuleDecl};
-use lx_fhdl::{Design, Domain, Memory, Port, SigId, Signal, Wishes};
+use lx_fhdl::{Design, Domain, Memory, Port, SigId, Signal};
 use lx_fragments::domains::{domains_made, mentions};
 use lx_fragments::fragments::{Fragments, fragments_of};
 use lx_objects::ios::ios_of;
@@ -64,27 +65,6 @@ fn is_system(machine: &Machine, at: usize) -> bool
     }
 }
 
-// The line on which a module was made.
-fn module_line(machine: &Machine, at: usize) -> u32
-    ensures { result ≡ module_line machine.now (slice_get machine.now.modules at) }
-{
-    match machine.modules.get(at) {
-        Some(module) => object_line(machine, module.object),
-        None => 0,
-    }
-}
-
-// Systems are not built yet.
-#[tactic(auto, unfolding(crate::specs::Describing::plain_top))]
-fn plain_top(machine: &Machine, top: usize) -> Result<(), Refusal>
-    ensures { Gives result machine.now (plain_top top machine.now) }
-{
-    if is_system(machine, top) {
-        return Err(fault(module_line(machine, top), Kind::NotYetBuilt));
-    }
-    Ok(())
-}
-
 // ---- its ports
 
 fn bound_ios(machine: &Machine, top: usize) -> Option<Value>
@@ -109,18 +89,6 @@ fn top_ios(machine: &Machine, alloc: Global, top: usize) -> Result<List<SigId>, 
 
 // ---- the description
 
-fn no_wishes(alloc: Global) -> Wishes
-    ensures { result ≡ no_wishes }
-{
-    Wishes {
-        regions: List::new(alloc),
-        banks: List::new(alloc),
-        fixes: List::new(alloc),
-        managers: List::new(alloc),
-        irqs: List::new(alloc),
-    }
-}
-
 /// What makes a design of what stands in a machine.
 #[derive(Drop)]
 pub struct Outline {
@@ -138,7 +106,7 @@ fn outline_of(machine: &mut Machine, alloc: Global, value: Value) -> Result<Outl
     ensures { Gives result machine.new (outline_of value machine.old) }
 {
     let top = top_of(machine, value)?;
-    plain_top(machine, top)?;
+    all_have_sources(machine)?;
     let ios = top_ios(machine, alloc, top)?;
     let fragments = fragments_of(machine, alloc, top)?;
     let mentioned = mentions(machine, alloc)?;
@@ -215,7 +183,7 @@ fn description_of(
     alloc: Global,
     outline: Outline,
 ) -> Result<Description, NoMemory>
-    requires { states_are_apart machine.old ≡ true }
+    requires { all_apart machine.old ≡ true }
     ensures is { IfOk result (λ description. description ≡ description_of machine.old outline) }
     ensures arenas { IfOk result (λ description. HasArenas description.design) }
 {
@@ -229,17 +197,25 @@ fn description_of(
     let name = module_text(machine, alloc, top)?;
     let modules = all_decls(machine, alloc, top)?;
     let named = named_of(machine, alloc)?;
+    let soc = is_system(machine, top);
+    let system = mem::replace(&mut machine.system, no_system(alloc));
+    let declared = declared_by(alloc, soc, system)?;
     let fsm_stmts = mem::replace(&mut machine.fsm_stmts, FsmStmts::new(alloc));
     let shaped = mem::replace(&mut machine.shaped, Shaped::new(alloc));
     let design = design_of(shaped, named, fragments, domains, ios);
+    let Declared {
+        slaves,
+        wishes,
+        constants,
+    } = declared;
     Ok(Description {
         top: name,
-        soc: false,
+        soc,
         design,
         modules,
-        slaves: List::new(alloc),
-        wishes: no_wishes(alloc),
-        constants: List::new(alloc),
+        slaves,
+        wishes,
+        constants,
         fsm_stmts,
         fsms,
     })
@@ -253,7 +229,7 @@ pub fn described(machine: &mut Machine, alloc: Global, value: Value) -> Result<D
     ensures arenas { IfOk result (λ description. HasArenas description.design) }
 {
     let outline = outline_of(machine, alloc, value)?;
-    states_apart(machine)?;
+    late_apart(machine)?;
     let description = description_of(machine, alloc, outline)?;
     Ok(description)
 }

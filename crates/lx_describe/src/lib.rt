@@ -4,12 +4,15 @@
 mod apart;
 pub mod describing;
 mod fsms;
+mod managers;
 pub mod memories;
 pub mod modules;
 pub mod order;
+pub mod parts;
 pub mod signals;
 pub mod start;
 pub mod submodules;
+mod systems;
 pub mod worked;
 
 pub use describing::described;

@@ -1,11 +1,10 @@
 //! The modules of a description, as it declares them.
 
-ghost use Rattle.std.specs.Prelude.{◌≡◌, ◌++◌, ◌∷◌, [], IfOk, OnOk, map, slice_get};
-ghost use Rattle.lx_describe.specs.Modules.{class_text, module_decl, module_decls, module_text, object_text, part_of, place_among};
+ghost use Rattle.std.specs.Prelude.{◌≡◌, ◌++◌, ◌∷◌, [], IfOk, OnOk, slice_get};
+ghost use Rattle.lx_describe.specs.Modules.{class_text, module_decl, module_decls, module_text};
 
-use crate::submodules::submodules;
-use lx_description::{ModuleDecl, Part};
-use lx_paths::names::own_name;
+use crate::parts::{object_text, parts_of};
+use lx_description::ModuleDecl;
 use lx_paths::paths::is_top;
 use lx_state::machine::{Machine, Submodule};
 use lx_text::{List, NoMemory, Word};
@@ -16,15 +15,6 @@ fn class_text(machine: &Machine, alloc: Global, class: usize) -> Result<Word, No
 {
     match machine.classes.get(class) {
         Some(class) => class.name.copied(alloc),
-        None => Ok(Word::empty(alloc)),
-    }
-}
-
-fn object_text(machine: &Machine, alloc: Global, object: usize) -> Result<Word, NoMemory>
-    ensures { IfOk result (λ name. name ≡ object_text machine.now (slice_get machine.now.objects object)) }
-{
-    match machine.objects.get(object) {
-        Some(object) => own_name(machine, alloc, object),
         None => Ok(Word::empty(alloc)),
     }
 }
@@ -45,28 +35,6 @@ pub fn module_text(machine: &Machine, alloc: Global, at: usize) -> Result<Word, 
     }
 }
 
-// How many stand before the module at a place.
-fn place_among(all: &[Submodule], at: usize) -> usize
-    ensures { result ≡ place_among all.now at }
-{
-    for (before, other) in all.iter().enumerate() {
-        if other.place == at {
-            return before;
-        }
-    }
-    all.len()
-}
-
-fn parts(alloc: Global, all: &[Submodule], submodules: &[Submodule]) -> Result<List<Part>, NoMemory>
-    ensures { IfOk result (λ list. list ≡ map (part_of all.now) submodules.now) }
-{
-    let mut list = List::new(alloc);
-    for submodule in submodules {
-        list.push(Part::Module(place_among(all, submodule.place)))?;
-    }
-    Ok(list)
-}
-
 fn module_decl(
     machine: &Machine,
     alloc: Global,
@@ -76,8 +44,7 @@ fn module_decl(
     ensures { IfOk result (λ decl. decl ≡ module_decl machine.now all.now submodule) }
 {
     let name = module_text(machine, alloc, submodule.place)?;
-    let below = submodules(machine, alloc, submodule.place)?;
-    let parts = parts(alloc, all, below.as_slice())?;
+    let parts = parts_of(machine, alloc, all, submodule.place)?;
     Ok(ModuleDecl {
         name,
         named: submodule.named,

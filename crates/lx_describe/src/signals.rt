@@ -1,13 +1,16 @@
-//! The signals of a design with their paths, and the bits of those that are the `state` of an FSM.
+//! The signals of a design with their paths, with the bits of those that are the `state` of an FSM or the `enable` of an event
+//! manager, and with those that the bus gives to interfaces.
 
-ghost use Rattle.std.specs.Prelude.{◌≡◌, ◌++◌, ◌∷◌, [], IfOk, OnOk, option_copied};
-ghost use Rattle.lx_describe.specs.Signals.{named_signal, named_signals, with_bits, with_path};
+ghost use Rattle.std.specs.Prelude.{◌≡◌, ◌++◌, ◌∷◌, [], IfOk, OnOk, slice_get};
+ghost use Rattle.lx_describe.specs.Signals.{named_signal, named_signals, with_bits, with_bus, with_path};
+ghost use Rattle.lx_describe.specs.Systems.{is_bus_given};
 
-use crate::apart::{owner_fsm, state_bits};
+use crate::apart::late_bits;
+use crate::systems::is_bus_given;
 use lx_fhdl::Signal;
 use lx_num::Shape;
 use lx_paths::paths::signal_path;
-use lx_state::machine::{Fsm, Machine};
+use lx_state::machine::Machine;
 use lx_text::{List, NoMemory, Word};
 use std::alloc::Global;
 
@@ -55,20 +58,57 @@ fn with_path(alloc: Global, path: List<Word>, signal: &Signal) -> Result<Signal,
     })
 }
 
-// A signal that is the `state` of an FSM has bits for all its states.
-fn with_bits(fsm: Option<&Fsm>, signal: Signal) -> Signal
-    ensures { result ≡ with_bits (option_copied fsm.entry) signal }
+// A signal with so many bits, where they weren't known before.
+fn with_bits(bits: Option<u8>, signal: Signal) -> Signal
+    ensures { result ≡ with_bits bits signal }
 {
-    match fsm {
-        Some(fsm) => Signal {
+    match bits {
+        Some(bits) => Signal {
             shape: Shape {
-                bits: state_bits(fsm.names.len()),
+                bits,
                 signed: false,
             },
             ..signal
         },
         None => signal,
     }
+}
+
+// A signal that the bus gives, or that it doesn't.
+fn with_bus(given: bool, signal: Signal) -> Signal
+    ensures { result ≡ with_bus given signal }
+{
+    if given {
+        return Signal {
+            by_bus: true,
+            ..signal
+        };
+    }
+    signal
+}
+
+// Whether the bus gives the signal at a place.
+fn is_given(machine: &Machine, place: usize) -> bool
+    ensures { result ≡ is_bus_given machine.now (slice_get machine.now.owners place) }
+{
+    match machine.owners.get(place) {
+        Some(owner) => is_bus_given(machine, owner),
+        None => false,
+    }
+}
+
+fn named_signal(
+    machine: &Machine,
+    alloc: Global,
+    place: usize,
+    signal: &Signal,
+) -> Result<Signal, NoMemory>
+    ensures { IfOk result (λ named. named ≡ named_signal machine.now place signal.now) }
+{
+    let path = signal_path(machine, alloc, place)?;
+    let named = with_path(alloc, path, signal)?;
+    let wide = with_bits(late_bits(machine, place), named);
+    Ok(with_bus(is_given(machine, place), wide))
 }
 
 // Adds the signal at a place with its path.
@@ -81,12 +121,12 @@ fn push_named(
 ) -> Result<(), NoMemory>
     ensures { OnOk result (into.new ≡ into.old ++ named_signal machine.now place signal.now ∷ []) }
 {
-    let path = signal_path(machine, alloc, place)?;
-    let named = with_path(alloc, path, signal)?;
-    into.push(with_bits(owner_fsm(machine, place), named))
+    let named = named_signal(machine, alloc, place, signal)?;
+    into.push(named)
 }
 
-/// The signals of the design with their paths; the `state` of an FSM has bits for all its states.
+/// The signals of the design with their paths; the `state` of an FSM has bits for all its states, the
+/// `enable` of an event manager one for each source. What a slave reads of an interface that was handed over is given.
 #[tactic(auto, unfolding(crate::specs::Signals::named_signals))]
 pub fn named_signals(machine: &Machine, alloc: Global) -> Result<List<Signal>, NoMemory>
     ensures { IfOk result (λ signals. signals ≡ named_signals machine.now 0 machine.now.shaped.signals) }

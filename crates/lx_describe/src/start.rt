@@ -6,7 +6,7 @@ ghost use Rattle.lx_describe.specs.Start.{start};
 use lx_arena::Arena;
 use lx_names::Table;
 use lx_shaped::Shaped;
-use lx_state::machine::{Frame, Machine, Specials};
+use lx_state::machine::{Frame, Machine, Specials, SystemState};
 use lx_text::List;
 use lx_value::Budget;
 use std::alloc::Global;
@@ -28,6 +28,22 @@ pub fn start(alloc: Global) -> Machine
         memory_objects: List::new(alloc),
         words: 0,
         ports: List::new(alloc),
+        registers: List::new(alloc),
+        fields: List::new(alloc),
+        constants: List::new(alloc),
+        managers: List::new(alloc),
+        sources: List::new(alloc),
+        regions: List::new(alloc),
+        interfaces: List::new(alloc),
+        system: SystemState {
+            base: 0xf0000000,
+            line: 0,
+            regions: List::new(alloc),
+            slaves: List::new(alloc),
+            fixes: List::new(alloc),
+            irqs: List::new(alloc),
+            constants: List::new(alloc),
+        },
         texts: List::new(alloc),
         lists: List::new(alloc),
         dictionaries: List::new(alloc),
@@ -35,6 +51,7 @@ pub fn start(alloc: Global) -> Machine
         fsm_stmts: Arena::new(alloc),
         domains: Table::new(alloc),
         specials: Specials {
+            fields: List::new(alloc),
             comb: List::new(alloc),
             sync: List::new(alloc),
         },

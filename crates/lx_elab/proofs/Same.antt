@@ -39,6 +39,9 @@ first_passes a b e = rw e refl
 pub design_holds : (d : Description) (b : Bool) → b ≡ (is_kept d.design && bodies_there d) → b ≡ true → Keeps d.design
 design_holds d b is passes = is_kept-is d.design (and_parts (is_kept d.design) (bodies_there d) (sym is ∙ passes)).0
 
+pub design_passes : (d : Description) (b : Bool) → b ≡ (is_kept d.design && bodies_there d) → b ≡ true → is_kept d.design ≡ true
+design_passes d b is passes = (and_parts (is_kept d.design) (bodies_there d) (sym is ∙ passes)).0
+
 pub bodies_hold : (d : Description) (b : Bool) → b ≡ (is_kept d.design && bodies_there d) → b ≡ true → bodies_there d ≡ true
 bodies_hold d b is passes = (and_parts (is_kept d.design) (bodies_there d) (sym is ∙ passes)).1
 

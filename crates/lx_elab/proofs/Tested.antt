@@ -12,4 +12,4 @@ use Rattle.lx_elab.specs.Worked.{AreTested}
 
 pub tested : AreTested
 unfolding and_design circuit_of fold_at term_at target_at stmt_at is_kept act_at assigned_at
-tested = record { kept_as_it_is = refl; not_built = refl; no_statement = refl; memory_stands = refl; word_too_wide = refl; no_such_memory = refl; no_fsm = refl; all_known = refl; no_states = refl; unknown_state = refl; unknown_start = refl; first_of_all = refl; fsm_stands = refl; no_clock = refl; too_few_bits = refl }
+tested = record { kept_as_it_is = refl; not_built = refl; no_statement = refl; memory_stands = refl; word_too_wide = refl; no_such_memory = refl; no_fsm = refl; all_known = refl; no_states = refl; unknown_state = refl; unknown_start = refl; first_of_all = refl; fsm_stands = refl; no_clock = refl; too_few_bits = refl; parts_stand = refl; no_top = refl }

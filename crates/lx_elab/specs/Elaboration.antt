@@ -11,6 +11,7 @@ use Rattle.lx_describe.specs.Answers.{answer}
 use Rattle.lx_describe.specs.Describing.{described}
 use Rattle.lx_describe.specs.Start.{start}
 use Rattle.lx_fsm_kept.specs.Stand.{fsms_stand}
+use Rattle.lx_parts_kept.specs.Parts.{parts_keep}
 use Rattle.lx_run.specs.Classes.{description_run}
 use Rattle.lx_elab.specs.Fsms.{bodies_there, fsm_faults, unless}
 
@@ -42,6 +43,10 @@ abbrev pub after : (Description → Result Description Fault) → Result Descrip
 after f (Ok d) = f d
 after f (Err e) = Err e
 
--- The description of a text with these classes, whose design keeps what designs keep; or its first fault.
+-- what it declares beside its circuit is such as descriptions have
+abbrev pub parted : Description → Result Description Fault
+parted d = built (parts_keep d) d
+
+-- The description of a text with these classes, which keeps what descriptions keep; or its first fault.
 abbrev pub elaborated : List ast.Class → Result Description Fault
-elaborated classes = after stood (after checked (after kept (untested classes)))
+elaborated classes = after parted (after stood (after checked (after kept (untested classes))))

@@ -9,7 +9,7 @@ use Rattle.lx_description.specs.declared.description.Description.{Description}
 use Rattle.lx_description.specs.declared.fsms.FsmDecl.{FsmDecl}
 use Rattle.lx_description.specs.declared.fsms.FsmStmt.TheVariants as fsm
 use Rattle.lx_description.specs.declared.fsms.StateDecl.{StateDecl}
-use Rattle.lx_elab.specs.Elaboration.{checked, kept, stood}
+use Rattle.lx_elab.specs.Elaboration.{checked, kept, parted, stood}
 
 -- of three signals the fourth as a port
 abbrev pub no_such_port : Description
@@ -65,3 +65,6 @@ pub record AreTested : Type 0 where
   pub no_clock : stood (with_fsms (known 7 ∷ [])) ≡ Err (record { line = 0; kind = kind.NotYetBuilt })
   -- one bit for the numbers of three states
   pub too_few_bits : stood (clocked (an_fsm 7 None (a_state (codes "A") [] ∷ a_state (codes "B") [] ∷ a_state (codes "C") [] ∷ []) ∷ [])) ≡ Err (record { line = 0; kind = kind.NotYetBuilt })
+  pub parts_stand : parted and_description ≡ Ok and_description
+  -- the top is the first of the modules
+  pub no_top : parted (record and_description { modules = [] }) ≡ Err (record { line = 0; kind = kind.NotYetBuilt })

@@ -5,6 +5,7 @@
 mod exprs;
 mod fsms;
 mod memories;
+mod parts;
 mod pieces;
 mod sheet;
 mod stmts;

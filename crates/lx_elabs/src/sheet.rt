@@ -3,20 +3,12 @@
 use crate::exprs::{put_all_targets, put_nodes};
 use crate::fsms::put_fsms;
 use crate::memories::put_memories;
+use crate::parts::{put_part, put_system};
 use crate::pieces::{put, put_line, put_path, put_signals, put_stmts};
 use crate::stmts::put_all_stmts;
-use lx_description::{Description, ModuleDecl, Part};
+use lx_description::{Description, ModuleDecl};
 use lx_fhdl::{Design, Domain, Signal, SyncPart};
 use lx_text::{NoMemory, Text};
-
-fn put_part(part: &Part, out: &mut Text) -> Result<(), NoMemory> {
-    match part {
-        Part::Reg(_) => out.word(b" register"),
-        Part::Constant(_) => out.word(b" constant"),
-        Part::Manager(_, _) => out.word(b" manager"),
-        Part::Module(place) => put(b" ", *place, out),
-    }
-}
 
 fn put_module(place: usize, module: &ModuleDecl, out: &mut Text) -> Result<(), NoMemory> {
     put(b"  ", place, out)?;
@@ -27,10 +19,11 @@ fn put_module(place: usize, module: &ModuleDecl, out: &mut Text) -> Result<(), N
     } else {
         b" unnamed".as_slice()
     })?;
+    out.word(b"\n")?;
     for part in module.parts.as_slice() {
         put_part(part, out)?;
     }
-    out.word(b"\n")
+    Ok(())
 }
 
 fn put_signal(place: usize, signal: &Signal, out: &mut Text) -> Result<(), NoMemory> {
@@ -45,6 +38,9 @@ fn put_signal(place: usize, signal: &Signal, out: &mut Text) -> Result<(), NoMem
     out.dec(signal.reset)?;
     if signal.reset_less {
         out.word(b" reset_less")?;
+    }
+    if signal.by_bus {
+        out.word(b" given")?;
     }
     put_line(signal.line, out)?;
     out.word(b"\n")
@@ -102,6 +98,7 @@ pub(crate) fn put_description(description: &Description, out: &mut Text) -> Resu
     for (place, module) in description.modules.as_slice().iter().enumerate() {
         put_module(place, module, out)?;
     }
+    put_system(description, out)?;
     put_design(&description.design, out)?;
     put_fsms(description, out)
 }

@@ -2,6 +2,7 @@
 use Rattle.std.specs.Prelude.{ℕ, zero, suc, List, [], ◌∷◌, ◌++◌, slice_get, Option, Some, None}
 use Rattle.lx_fhdl.specs.declared.design.SyncPart.{SyncPart}
 use Rattle.lx_state.specs.declared.machine.Module.{Module}
+use Rattle.lx_state.specs.declared.machine.Specials.{Specials}
 use Rattle.lx_state.specs.declared.machine.Submodule.{Submodule}
 use Rattle.lx_state.specs.declared.machine.SyncItem.{SyncItem}
 use Rattle.lx_state.specs.Step.{Step, give, reads, ◌>>=◌}
@@ -49,12 +50,16 @@ lay_parts (item ∷ items) = do
   parts ← lay_parts items
   give (record { domain = item.domain; stmts = id ∷ [] } ∷ parts)
 
+-- the combinatorial statements of what takes part once it is made, those of registers' fields first
+abbrev pub first_comb : Specials → List ℕ
+first_comb s = s.fields ++ s.comb
+
 -- the statements of what takes part once it is made, then the fragment of a module with those of all modules below it; no
--- chain of modules is longer than 64, and what stands for an FSM may stand below
+-- chain of modules is longer than 64, and what stands for an FSM or an event manager may stand below
 unfoldable pub fragments_of : ℕ → Step Fragments
 fragments_of top = do
   places ← reads (λ m. under m.modules 65 top)
-  made ← reads (λ m. m.specials.comb ++ all_comb m.modules places)
+  made ← reads (λ m. first_comb m.specials ++ all_comb m.modules places)
   items ← reads (λ m. m.specials.sync ++ all_sync m.modules places)
   comb ← lay_out made
   sync ← lay_parts items

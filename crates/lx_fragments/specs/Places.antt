@@ -16,7 +16,7 @@ place_among modules k before (at ∷ ats) = if nat_eq at k then Some before else
 
 -- the statements of what takes part once it is made stand first
 abbrev pub first_place : Machine → FsmPlace
-first_place m = record { comb = length m.specials.comb; sync = length m.specials.sync }
+first_place m = record { comb = length m.specials.fields + length m.specials.comb; sync = length m.specials.sync }
 
 -- what stands before the statements of a module that was added to the top or below; none where it wasn't
 abbrev pub place_of : Machine → ℕ → ℕ → Option FsmPlace

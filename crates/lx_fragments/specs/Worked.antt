@@ -74,7 +74,7 @@ submodules [] = []
 submodules (x ∷ xs) = record { place = x; named = true } ∷ submodules xs
 
 abbrev pub a_module : List ℕ → List SyncItem → List ℕ → Module
-a_module comb sync below = record { object = 0; class = 0; kind = bases.Plain; attributes = []; comb = comb; sync = sync; submodules = submodules below; added = None; room = 63 }
+a_module comb sync below = record { object = 0; class = 0; kind = bases.Plain; attributes = []; bound = []; comb = comb; sync = sync; submodules = submodules below; added = None; room = 63 }
 
 -- the top has the modules 2 and 1, and 2 has 3; each has statements of its own
 abbrev pub modules : Machine
@@ -82,11 +82,11 @@ modules = record branches {
   modules = a_module (2 ∷ []) [] (2 ∷ 1 ∷ []) ∷ a_module (0 ∷ []) (record { domain = 1; made = 1 } ∷ []) [] ∷ a_module [] (record { domain = 0; made = 0 } ∷ []) (3 ∷ []) ∷ a_module (1 ∷ 0 ∷ []) [] [] ∷ [];
 }
 
--- a module with statements of its own, and two that stand for what takes part once it is made
+-- a module with statements of its own, and three that stand for what takes part once it is made, one of them for a field
 abbrev pub equipped : Machine
 equipped = record branches {
   modules = a_module (2 ∷ []) (record { domain = 0; made = 0 } ∷ []) [] ∷ [];
-  specials = record { comb = 1 ∷ []; sync = record { domain = 0; made = 2 } ∷ [] };
+  specials = record { fields = 0 ∷ []; comb = 1 ∷ []; sync = record { domain = 0; made = 2 } ∷ [] };
 }
 
 -- `x.eq(..)`, `NextState("B")`, an `If` over both with an `Else`, a `Case` over the second, and a `NextValue`
@@ -123,9 +123,9 @@ pub record AreLaidOut : Type 0 where
   pub order : under modules.modules 64 0 ≡ 0 ∷ 2 ∷ 3 ∷ 1 ∷ []
   pub statements : value_of (fragments_of 0 modules) ≡ Ok (record { comb = the_stmt 0 ∷ the_stmt 1 ∷ the_stmt 2 ∷ the_stmt 3 ∷ []; sync = record { domain = 0; stmts = the_stmt 4 ∷ [] } ∷ record { domain = 1; stmts = the_stmt 5 ∷ [] } ∷ [] })
   pub in_order : seen stmts (fragments_of 0 modules) ≡ Ok (stmt.Assign (the_target 0) (the_expr 0) 5 ∷ stmt.Assign (the_target 0) (the_expr 1) 4 ∷ stmt.Assign (the_target 0) (the_expr 0) 3 ∷ stmt.Assign (the_target 0) (the_expr 0) 3 ∷ stmt.Assign (the_target 0) (the_expr 0) 3 ∷ stmt.Assign (the_target 0) (the_expr 1) 4 ∷ [])
-  -- what takes part once it is made stands before all modules, whose own statements stand behind it
-  pub specials_first : seen stmts (fragments_of 0 equipped) ≡ Ok (stmt.Assign (the_target 0) (the_expr 1) 4 ∷ stmt.Assign (the_target 0) (the_expr 0) 5 ∷ stmt.Assign (the_target 0) (the_expr 0) 5 ∷ stmt.Assign (the_target 0) (the_expr 0) 3 ∷ [])
-  pub special_statements : value_of (fragments_of 0 equipped) ≡ Ok (record { comb = the_stmt 0 ∷ the_stmt 1 ∷ []; sync = record { domain = 0; stmts = the_stmt 2 ∷ [] } ∷ record { domain = 0; stmts = the_stmt 3 ∷ [] } ∷ [] })
+  -- what takes part once it is made stands before all modules, fields first; the modules' own statements stand behind it
+  pub specials_first : seen stmts (fragments_of 0 equipped) ≡ Ok (stmt.Assign (the_target 0) (the_expr 0) 3 ∷ stmt.Assign (the_target 0) (the_expr 1) 4 ∷ stmt.Assign (the_target 0) (the_expr 0) 5 ∷ stmt.Assign (the_target 0) (the_expr 0) 5 ∷ stmt.Assign (the_target 0) (the_expr 0) 3 ∷ [])
+  pub special_statements : value_of (fragments_of 0 equipped) ≡ Ok (record { comb = the_stmt 0 ∷ the_stmt 1 ∷ the_stmt 2 ∷ []; sync = record { domain = 0; stmts = the_stmt 3 ∷ [] } ∷ record { domain = 0; stmts = the_stmt 4 ∷ [] } ∷ [] })
   -- the domains with their resets
   pub resets : value_of (domains_made (record { name = codes "sys"; reset = true } ∷ record { name = codes "pix"; reset = false } ∷ []) branches) ≡ Ok (record { name = codes "sys"; reset = Some (the_signal 1) } ∷ record { name = codes "pix"; reset = None } ∷ [])
   -- the states in the order of their numbers, and their statements
@@ -139,7 +139,7 @@ pub record AreLaidOut : Type 0 where
   pub state_too_deep : seen nodes (states_of (record { name = []; places = 3 ∷ [] } ∷ []) cases) ≡ Err (record { line = 5; kind = kind.Limit limit.Depth })
   pub next_state_elsewhere : seen stmts (lay_out (1 ∷ []) stated) ≡ Err (record { line = 4; kind = kind.WrongKind })
   -- an FSM stands behind what stands before it
-  pub place_of_first : place_of added 0 1 ≡ Some (record { comb = 3; sync = 2 })
-  pub place_of_second : place_of added 0 4 ≡ Some (record { comb = 5; sync = 3 })
+  pub place_of_first : place_of added 0 1 ≡ Some (record { comb = 4; sync = 2 })
+  pub place_of_second : place_of added 0 4 ≡ Some (record { comb = 6; sync = 3 })
   pub place_of_none : place_of added 0 5 ≡ None
   pub place_elsewhere : place_of added 3 1 ≡ None

@@ -2,13 +2,13 @@
 
 ghost use Rattle.std.specs.Prelude.{◌≡◌, ◌++◌, ◌∷◌, [], IfOk, OnOk, slice_get};
 ghost use Rattle.lx_state.specs.Step.{Gives};
-ghost use Rattle.lx_fragments.specs.Fragments.{all_comb, all_sync, all_under, comb_of, fragments_of, lay_parts, submodules_of, sync_of, under};
+ghost use Rattle.lx_fragments.specs.Fragments.{all_comb, all_sync, all_under, comb_of, first_comb, fragments_of, lay_parts, submodules_of, sync_of, under};
 
 use crate::copies::push_all;
 use crate::laying::{lay, lay_out};
 use lx_fhdl::{StmtId, SyncPart};
 use lx_state::lists::copied;
-use lx_state::machine::{Machine, Module, Submodule, SyncItem};
+use lx_state::machine::{Machine, Module, Specials, Submodule, SyncItem};
 use lx_text::{List, NoMemory, Refusal};
 use std::alloc::Global;
 
@@ -69,7 +69,7 @@ fn push_all_under(
     Ok(())
 }
 
-/// The modules that stand at a place and below, with what stands for FSMs there.
+/// The modules that stand at a place and below, with what stands for FSMs and event managers there.
 pub fn under(machine: &Machine, alloc: Global, top: usize) -> Result<List<usize>, NoMemory>
     ensures { IfOk result (λ places. places ≡ under machine.now.modules 65 top) }
 {
@@ -87,12 +87,21 @@ fn push_comb(into: &mut List<usize>, modules: &List<Module>, at: usize) -> Resul
     }
 }
 
+// The combinatorial statements of what takes part once it is made, those of registers' fields first.
+fn first_comb(alloc: Global, specials: &Specials) -> Result<List<usize>, NoMemory>
+    ensures { IfOk result (λ made. made ≡ first_comb specials.now) }
+{
+    let mut made = copied(alloc, &specials.fields)?;
+    push_all(&mut made, specials.comb.as_slice())?;
+    Ok(made)
+}
+
 // The combinatorial statements of what takes part once it is made, then those of modules.
 #[tactic(auto, unfolding(crate::specs::Fragments::all_comb))]
 fn all_comb(machine: &Machine, alloc: Global, places: &[usize]) -> Result<List<usize>, NoMemory>
-    ensures { IfOk result (λ made. made ≡ machine.now.specials.comb ++ all_comb machine.now.modules places.now) }
+    ensures { IfOk result (λ made. made ≡ first_comb machine.now.specials ++ all_comb machine.now.modules places.now) }
 {
-    let mut made = copied(alloc, &machine.specials.comb)?;
+    let mut made = first_comb(alloc, &machine.specials)?;
     for at in places {
         push_comb(&mut made, &machine.modules, *at)?;
     }

@@ -33,13 +33,13 @@ fn behind(machine: &Machine, before: FsmPlace, at: usize) -> Result<FsmPlace, No
 }
 
 // The statements of what takes part once it is made stand first.
-fn first_place(machine: &Machine) -> FsmPlace
-    ensures { result ≡ first_place machine.now }
+fn first_place(machine: &Machine) -> Result<FsmPlace, NoMemory>
+    ensures { IfOk result (λ place. place ≡ first_place machine.now) }
 {
-    FsmPlace {
-        comb: machine.specials.comb.len(),
+    Ok(FsmPlace {
+        comb: sum(machine.specials.fields.len(), machine.specials.comb.len())?,
         sync: machine.specials.sync.len(),
-    }
+    })
 }
 
 // Where so many modules stand that were added nowhere.
@@ -74,7 +74,7 @@ pub fn places(
 {
     let all = under(machine, alloc, top)?;
     let mut places = nowhere(alloc, machine.modules.len())?;
-    let mut before = first_place(machine);
+    let mut before = first_place(machine)?;
     for at in all.as_slice() {
         note(&mut places, *at, before);
         before = behind(machine, before, *at)?;

@@ -59,7 +59,7 @@ lengthen_by line object s (suc n) chain = do
 
 -- the statements of the registers stand in the domain, and that of the signal behind them in comb
 unfoldable pub keep_crossing : ℕ → List ℕ → ℕ → Step (Unit {0})
-keep_crossing domain registers last m = give tt (record m { specials = record { comb = m.specials.comb ++ last ∷ []; sync = m.specials.sync ++ sync_items domain registers } })
+keep_crossing domain registers last m = give tt (record m { specials = record m.specials { comb = m.specials.comb ++ last ∷ []; sync = m.specials.sync ++ sync_items domain registers } })
 
 -- no more registers than a design may have signals
 unfoldable pub registers_within : ℕ → ℕ → Step ℕ

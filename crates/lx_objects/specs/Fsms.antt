@@ -31,7 +31,7 @@ use Rattle.lx_objects.specs.Statements.{statements_of}
 abbrev pub one_bit : ℕ → Signal
 one_bit line = record { path = []; shape = unsigned 1; reset = pos 0; reset_less = false; by_bus = false; line = line }
 
--- what stands for an FSM among the modules: 64 modules may stand above it, so it is no level itself
+-- what stands for an FSM or an event manager among the modules: 64 modules may stand above it, so it is no level itself
 abbrev pub stand_in : ℕ → Module
 stand_in object = record (new_module object 0 bases.Plain) { room = 64 }
 

@@ -9,6 +9,10 @@ use Rattle.lx_fhdl.specs.declared.design.PortMode.{PortMode}
 use Rattle.lx_fhdl.specs.declared.design.PortMode.TheVariants as mode
 use Rattle.lx_fhdl.specs.declared.design.Signal.{Signal}
 use Rattle.lx_fhdl.specs.declared.exprs.Expr.TheVariants as expr
+use Rattle.lx_description.specs.declared.slaves.SlaveDecl.{SlaveDecl}
+use Rattle.lx_description.specs.declared.slaves.SlaveKind.{SlaveKind}
+use Rattle.lx_description.specs.declared.slaves.SlaveKind.TheVariants as slave
+use Rattle.lx_state.specs.declared.machine.Machine.{Machine}
 use Rattle.lx_state.specs.declared.machine.PortState.{PortState}
 use Rattle.lx_state.specs.declared.machine.What.TheVariants as what
 use Rattle.lx_state.specs.declared.values.Value.{Value}
@@ -20,9 +24,9 @@ use Rattle.lx_objects.specs.Domains.{mention}
 use Rattle.lx_objects.specs.Exprs.{put_expr}
 use Rattle.lx_objects.specs.Signals.{new_signal}
 use Rattle.lx_objects.specs.declared.memories.Extent.{Extent}
-use Rattle.lx_objects.specs.declared.memories.Pin.{Pin}
 use Rattle.lx_objects.specs.declared.memories.PortCall.{PortCall}
 use Rattle.lx_objects.specs.declared.memories.WritePins.{WritePins}
+use Rattle.lx_objects.specs.declared.registers.Pin.{Pin}
 
 -- ---- `Memory(..)`
 
@@ -33,6 +37,19 @@ word_of width z = modulo z (2 ^ width)
 -- it has no path before it is described
 abbrev pub new_memory : ℕ → ℕ → ℕ → List ℤ → Memory
 new_memory line width depth contents = record { path = []; width = width; depth = depth; init = map (word_of width) contents; line = line }
+
+-- a memory that answers on the bus
+abbrev pub is_store : SlaveKind → Bool
+is_store (slave.User xs) = false
+is_store _ = true
+
+unfoldable pub stores : List SlaveDecl → ℕ
+stores [] = 0
+stores (s ∷ ss) = if is_store s.kind then stores ss + 1 else stores ss
+
+-- those on the bus are memories too
+abbrev pub memory_count : Machine → ℕ
+memory_count m = length m.memories + stores m.system.slaves
 
 -- the words of all memories together
 unfoldable pub spend_words : ℕ → ℕ → Step (Unit {0})
@@ -47,7 +64,8 @@ keep_memory object x m = give tt (record m { memories = m.memories ++ x ∷ []; 
 unfoldable pub memory_made : ℕ → ℕ → ℕ → List ℤ → Step Value
 memory_made line width depth contents = do
   k ← reads (λ m. length m.memories)
-  _ ← one_more line limit.Memories k
+  count ← reads memory_count
+  _ ← one_more line limit.Memories count
   _ ← spend_words line depth
   object ← object_made (what.Memory k) line None
   _ ← keep_memory object (new_memory line width depth contents)

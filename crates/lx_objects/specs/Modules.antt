@@ -9,6 +9,7 @@ use Rattle.lx_state.specs.declared.machine.Binding.TheVariants as binding
 use Rattle.lx_state.specs.declared.machine.Fsm.{Fsm}
 use Rattle.lx_state.specs.declared.machine.Leaves.TheVariants as leaves
 use Rattle.lx_state.specs.declared.machine.Machine.{Machine}
+use Rattle.lx_state.specs.declared.machine.ManagerState.{ManagerState}
 use Rattle.lx_state.specs.declared.machine.Module.{Module}
 use Rattle.lx_state.specs.declared.machine.ModuleKind.{ModuleKind}
 use Rattle.lx_state.specs.declared.machine.ModuleKind.TheVariants as bases
@@ -16,7 +17,7 @@ use Rattle.lx_state.specs.declared.machine.Object.{Object}
 use Rattle.lx_state.specs.declared.machine.SyncItem.{SyncItem}
 use Rattle.lx_state.specs.declared.machine.What.{What}
 use Rattle.lx_state.specs.declared.machine.What.TheVariants as what
-use Rattle.lx_state.specs.Naming.{bind_name, object_made}
+use Rattle.lx_state.specs.Naming.{bind_name, object_made, settle_object}
 use Rattle.lx_objects.specs.Domains.{declare_bound, mention}
 use Rattle.lx_objects.specs.Statements.{all_of, only, statements_of}
 use Rattle.lx_state.specs.Changes.{changed}
@@ -26,14 +27,14 @@ use Rattle.lx_state.specs.Work.{name_fits, one_more}
 -- ---- modules
 
 abbrev pub new_module : ℕ → ℕ → ModuleKind → Module
-new_module object class kind_ = record { object = object; class = class; kind = kind_; attributes = []; comb = []; sync = []; submodules = []; added = None; room = 63 }
+new_module object class kind_ = record { object = object; class = class; kind = kind_; attributes = []; bound = []; comb = []; sync = []; submodules = []; added = None; room = 63 }
 
 unfoldable pub keep_module : ℕ → ℕ → ModuleKind → Step ℕ
 keep_module object class kind_ m = give (length m.modules) (record m { modules = m.modules ++ new_module object class kind_ ∷ [] })
 
--- what stands among the modules for an FSM counts as none of them
+-- what stands among the modules for an FSM or an event manager counts as none of them
 abbrev pub module_count : Machine → ℕ
-module_count m = length m.modules - length m.fsms
+module_count m = length m.modules - (length m.fsms + length m.managers)
 
 -- a module, without attributes, with nothing added
 unfoldable pub module_made : ℕ → ℕ → ModuleKind → Step ℕ
@@ -55,8 +56,13 @@ some_attribute name (Some x) = look_up x.attributes name
 unfoldable pub attribute : ℕ → ℕ → List ℕ → Step Value
 attribute line at name m = or_fault (some_attribute name (slice_get m.modules at)) line (kind.UnknownName name) m
 
+-- the object that a value is
+abbrev pub object_of : Value → List ℕ
+object_of (value.Object at) = at ∷ []
+object_of _ = []
+
 abbrev pub with_attribute : List ℕ → Value → Module → Module
-with_attribute name v x = record x { attributes = with_name x.attributes name v }
+with_attribute name v x = record x { attributes = with_name x.attributes name v; bound = x.bound ++ object_of v }
 
 -- ---- submodules
 
@@ -77,16 +83,21 @@ abbrev pub module_of_fsm : Option Fsm → Option ℕ
 module_of_fsm None = None
 module_of_fsm (Some f) = Some f.«module»
 
+abbrev pub module_of_manager : Option ManagerState → Option ℕ
+module_of_manager None = None
+module_of_manager (Some x) = Some x.«module»
+
 abbrev pub added_of_what : Machine → What → Option ℕ
 added_of_what m (what.Module at) = Some at
 added_of_what m (what.Fsm k) = module_of_fsm (slice_get m.fsms k)
+added_of_what m (what.Manager k) = module_of_manager (slice_get m.managers k)
 added_of_what m _ = None
 
 abbrev pub added_of_object : Machine → Option Object → Option ℕ
 added_of_object m None = None
 added_of_object m (Some o) = added_of_what m o.what
 
--- the module that is added where a value is: itself, or what stands for an FSM
+-- the module that is added where a value is: itself, or what stands for an FSM or an event manager
 abbrev pub added_of : Machine → Value → Option ℕ
 added_of m (value.Object at) = added_of_object m (slice_get m.objects at)
 added_of m _ = None
@@ -138,7 +149,7 @@ abbrev pub add_some : ℕ → ℕ → Bool → Option ℕ → Step (Unit {0})
 add_some line to named None = give tt
 add_some line to named (Some at) = add_module line to named at
 
--- an object, where it is a module or an FSM
+-- an object, where it is a module, an FSM or an event manager
 unfoldable pub add_object : ℕ → ℕ → Bool → ℕ → Step (Unit {0})
 add_object line to named object m = add_some line to named (added_of_object m (slice_get m.objects object)) m
 
@@ -166,15 +177,21 @@ abbrev pub is_adding : Option Module → Bool
 is_adding None = false
 is_adding (Some x) = adds_by_binding x.kind
 
--- in a `LiteXModule` and in a `SoCCore` a module or an FSM that is bound is added by its name
+-- in a `LiteXModule` and in a `SoCCore` a module, an FSM or an event manager that is bound is added by its name
 unfoldable pub add_bound : ℕ → ℕ → Value → Step (Unit {0})
 add_bound line at v m = if is_adding (slice_get m.modules at) then add_some line at true (added_of m v) m else give tt m
+
+-- an object that an attribute of the module binds itself
+abbrev pub settle : ℕ → Value → Step (Unit {0})
+settle at (value.Object object) = settle_object at object
+settle at _ = give tt
 
 unfoldable pub bind_attribute : ℕ → ℕ → List ℕ → Value → Step (Unit {0})
 bind_attribute line at name v = do
   _ ← declare_bound line name v
   _ ← name_fits line name
   _ ← bind_name binding.Attribute name v
+  _ ← settle at v
   change_module at (with_attribute name v)
 
 -- `self.name = v`

@@ -45,7 +45,7 @@ use Rattle.lx_objects.specs.Signals.{part_made, signal_made}
 use Rattle.lx_objects.specs.Statements.{elif_made, else_made, if_made, next_state_made, next_value_made}
 
 abbrev pub a_module : Option ℕ → ℕ → Module
-a_module added room = record { object = 0; class = 0; kind = bases.Plain; attributes = []; comb = []; sync = []; submodules = []; added = added; room = room }
+a_module added room = record { object = 0; class = 0; kind = bases.Plain; attributes = []; bound = []; comb = []; sync = []; submodules = []; added = added; room = room }
 
 abbrev pub rooms : Machine → List ℕ
 rooms m = map (λ x. x.room) m.modules
@@ -97,7 +97,7 @@ keyed = record fragment { texts = codes "default" ∷ codes "other" ∷ [] }
 -- ---- clock domains
 
 abbrev pub an_object : What → Object
-an_object what_ = record { what = what_; line = 1; maker = None; given = None; by_attribute = None; by_local = None }
+an_object what_ = record { what = what_; line = 1; maker = None; given = None; by_attribute = None; by_local = None; home = None }
 
 abbrev pub a_clock_domain : Bool → Object
 a_clock_domain reset = an_object (what.ClockDomain (record { reset = reset; bound = false }))
@@ -230,7 +230,7 @@ pub record AreWorked : Type 0 where
   pub crossed_from : seen exprs (cross 2) ≡ Ok (expr.Sig (the_signal 0) ∷ expr.Sig (the_signal 2) ∷ expr.Sig (the_signal 3) ∷ [])
   pub registers : seen new_signals (cross 2) ≡ Ok (a_register ∷ a_register ∷ [])
   pub register_names : seen owners (cross 2) ≡ Ok (a_part (codes "regs0") ∷ a_part (codes "regs1") ∷ [])
-  pub kept : seen specials (cross 2) ≡ Ok (record { comb = 2 ∷ []; sync = record { domain = 0; made = 0 } ∷ record { domain = 0; made = 1 } ∷ [] })
+  pub kept : seen specials (cross 2) ≡ Ok (record { fields = []; comb = 2 ∷ []; sync = record { domain = 0; made = 0 } ∷ record { domain = 0; made = 1 } ∷ [] })
   pub crossing_mentions : seen domain_names (cross 2) ≡ Ok (codes "pix" ∷ [])
   pub no_node : seen nodes (cross 2) ≡ Ok 0
   pub too_many_registers : seen nodes (cross 65537) ≡ Err (record { line = 9; kind = kind.Limit limit.Signals })

@@ -89,7 +89,12 @@ fn note_domain(machine: &mut Machine, name: &[u8], reset: bool) -> Result<(), Re
 
 // Declares a domain, which mentions it.
 #[tactic(auto, unfolding(crate::specs::Domains::declare))]
-fn declare(machine: &mut Machine, line: u32, name: &[u8], reset: bool) -> Result<(), Refusal>
+pub(crate) fn declare(
+    machine: &mut Machine,
+    line: u32,
+    name: &[u8],
+    reset: bool,
+) -> Result<(), Refusal>
     ensures { Gives result machine.new (declare line name.now reset machine.old) }
 {
     mention(machine, line, name)?;
@@ -129,6 +134,9 @@ fn unbound(what: What) -> Option<ClockDomain>
         What::Fsm(_) => None,
         What::Memory(_) => None,
         What::Port(_) => None,
+        What::Register(_) | What::Field(_) | What::Constant(_) => None,
+        What::Region(_) | What::Interface(_) => None,
+        What::Manager(_) | What::Source(_) => None,
     }
 }
 

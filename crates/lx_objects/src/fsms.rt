@@ -19,8 +19,8 @@ use lx_state::work::fault;
 use lx_text::{Kind, LimitKind, List, NoMemory, Refusal, Word};
 use std::alloc::Global;
 
-// A signal of one unsigned bit.
-fn one_bit(alloc: Global, line: u32) -> Signal
+/// A signal of one unsigned bit.
+pub(crate) fn one_bit(alloc: Global, line: u32) -> Signal
     ensures { result ≡ one_bit line }
 {
     Signal {
@@ -36,7 +36,7 @@ fn one_bit(alloc: Global, line: u32) -> Signal
     }
 }
 
-// What stands for an FSM among the modules. It is no level, so 64 modules may stand above it.
+// What stands for an FSM or an event manager among the modules. It is no level, so 64 modules may stand above it.
 fn stand_in(alloc: Global, object: usize) -> Module
     ensures { result ≡ stand_in object }
 {
@@ -45,8 +45,13 @@ fn stand_in(alloc: Global, object: usize) -> Module
     module
 }
 
+/// Keeps what stands for an FSM or an event manager among the modules.
 #[tactic(auto, unfolding(crate::specs::Fsms::keep_stand_in))]
-fn keep_stand_in(machine: &mut Machine, alloc: Global, object: usize) -> Result<usize, Refusal>
+pub(crate) fn keep_stand_in(
+    machine: &mut Machine,
+    alloc: Global,
+    object: usize,
+) -> Result<usize, Refusal>
     ensures { Gives result machine.new (keep_stand_in object machine.old) }
 {
     let place = machine.modules.len();

@@ -4,11 +4,14 @@
 pub mod cases;
 pub mod crossings;
 pub mod domains;
+pub mod events;
 pub mod exprs;
 pub mod fsms;
 pub mod ios;
 pub mod memories;
 pub mod modules;
+pub mod registers;
 pub mod signals;
 pub mod statements;
+pub mod systems;
 pub mod worked;

@@ -2,12 +2,15 @@
 
 ghost use Rattle.std.specs.Prelude.{◌≡◌, ◌≤◌, ◌/◌, ◌^◌, map, slice_get, IfOk};
 ghost use Rattle.lx_state.specs.Step.{Gives};
-ghost use Rattle.lx_objects.specs.Memories.{address_bits, extent_of, keep_memory, keep_port, memory_made, mention_some, new_memory, new_port, pin_made, port_domain, port_with_pins, port_made, port_signal, some_extent, spend_words, word_of, works_in_domain, write_pins, write_pins_made};
+ghost use Rattle.lx_state.specs.Work.{one_more};
+ghost use Rattle.lx_objects.specs.Memories.{address_bits, extent_of, is_store, keep_memory, keep_port, memory_count, memory_made, mention_some, new_memory, new_port, pin_made, port_domain, port_made, port_signal, port_with_pins, some_extent, spend_words, stores, word_of, works_in_domain, write_pins, write_pins_made};
 
 use crate::domains::mention;
 use crate::exprs::put_expr;
+use crate::registers::Pin;
 use crate::signals::new_signal;
-use lx_fhdl::{Expr, ExprId, Memory, Port, PortMode, SigId, Signal};
+use lx_description::{SlaveDecl, SlaveKind};
+use lx_fhdl::{Expr, Memory, Port, PortMode, Signal};
 use lx_num::{Shape, wrap};
 use lx_state::machine::{Machine, PortState, What, Writing};
 use lx_state::values::Value;
@@ -35,13 +38,6 @@ pub struct PortCall {
     pub part: u8,
 }
 
-/// A signal of a port, and the expression that reads it.
-#[derive(Clone, Copy)]
-pub struct Pin {
-    pub signal: SigId,
-    pub read: ExprId,
-}
-
 /// The signals of a port that may write.
 #[derive(Clone, Copy)]
 pub struct WritePins {
@@ -50,7 +46,7 @@ pub struct WritePins {
 }
 
 // A content is taken modulo 2 to the bits of a word.
-fn word_of(width: u8, content: i128) -> u64
+pub(crate) fn word_of(width: u8, content: i128) -> u64
     requires some { 1 ≤ width }
     requires most { width ≤ 64 }
     ensures { result ≡ word_of width content }
@@ -94,9 +90,56 @@ fn new_memory(
     })
 }
 
+fn is_store(kind: &SlaveKind) -> bool
+    ensures { result ≡ is_store kind.now }
+{
+    match kind {
+        SlaveKind::Ram(_) | SlaveKind::Rom(_) => true,
+        SlaveKind::User(_) => false,
+    }
+}
+
+#[tactic(auto, unfolding(crate::specs::Memories::stores))]
+fn stores(slaves: &[SlaveDecl]) -> usize
+    ensures { result ≡ stores slaves.now }
+{
+    let mut count: usize = 0;
+    for slave in slaves {
+        if is_store(&slave.kind) {
+            count += 1;
+        }
+    }
+    count
+}
+
+/// The memories so far. Those on the bus are memories too.
+pub(crate) fn memory_count(machine: &Machine) -> u128
+    ensures { result ≡ memory_count machine.now }
+{
+    machine.memories.len() as u128 + stores(machine.system.slaves.as_slice()) as u128
+}
+
+/// Tells whether one more may come where so many are there already.
+#[tactic(auto, unfolding(lx_state::specs::Work::one_more))]
+pub(crate) fn count_fits(
+    machine: &Machine,
+    line: u32,
+    what: LimitKind,
+    count: u128,
+) -> Result<(), Refusal>
+    ensures { Gives result machine.now (one_more line what count machine.now) }
+{
+    let _machine = machine;
+    if count < greatest(what) as u128 {
+        Ok(())
+    } else {
+        Err(limit(line, what))
+    }
+}
+
 // Counts the words of all memories together.
 #[tactic(auto, unfolding(crate::specs::Memories::spend_words))]
-fn spend_words(machine: &mut Machine, line: u32, count: u32) -> Result<(), Refusal>
+pub(crate) fn spend_words(machine: &mut Machine, line: u32, count: u32) -> Result<(), Refusal>
     ensures { Gives result machine.new (spend_words line count machine.old) }
 {
     let words = machine.words as u64 + count as u64;
@@ -132,7 +175,7 @@ pub fn memory_made(
     ensures { Gives result machine.new (memory_made line width depth contents.now machine.old) }
 {
     let place = machine.memories.len();
-    machine.one_more(line, LimitKind::Memories, place)?;
+    count_fits(machine, line, LimitKind::Memories, memory_count(machine))?;
     spend_words(machine, line, depth)?;
     let object = machine.object_made(What::Memory(place), line, None)?;
     let memory = new_memory(alloc, line, width, depth, contents)?;

@@ -1,9 +1,9 @@
 //! Modules: their attributes, and what is added to them.
 
-ghost use Rattle.std.specs.Prelude.{◌≡◌, ◌++◌, ◌∷◌, [], false, OnOk, slice_get};
+ghost use Rattle.std.specs.Prelude.{◌≡◌, ◌++◌, false, Ok, OnOk, slice_get};
 ghost use Rattle.lx_state.specs.Changes.{changed};
 ghost use Rattle.lx_state.specs.Step.{Gives};
-ghost use Rattle.lx_objects.specs.Modules.{above, add_bound, add_comb, add_in, add_module, add_modules, add_object, add_objects, add_some, add_some_in, add_sync, added_of, added_of_object, added_of_what, added_to, adds_by_binding, attribute, bind_attribute, change_module, is_added, is_adding, keep_module, module_count, module_made, module_of, module_of_fsm, module_of_object, module_of_what, new_module, rise, rise_on, room_of, set_attribute, some_attribute, sync_items, with_attribute, with_comb, with_room, with_submodule, with_sync};
+ghost use Rattle.lx_objects.specs.Modules.{above, add_bound, add_comb, add_in, add_module, add_modules, add_object, add_objects, add_some, add_some_in, add_sync, added_of, added_of_object, added_of_what, added_to, adds_by_binding, attribute, bind_attribute, change_module, is_added, is_adding, keep_module, module_count, module_made, module_of, module_of_fsm, module_of_manager, module_of_object, module_of_what, new_module, object_of, rise, rise_on, room_of, set_attribute, settle, some_attribute, sync_items, with_attribute, with_comb, with_room, with_submodule, with_sync};
 
 use crate::domains::{declare_bound, mention};
 use crate::statements::{all_of, only, statements_of};
@@ -23,11 +23,25 @@ pub(crate) fn new_module(alloc: Global, object: usize, class: usize, kind: Modul
         class,
         kind,
         attributes: Table::new(alloc),
+        bound: List::new(alloc),
         comb: List::new(alloc),
         sync: List::new(alloc),
         submodules: List::new(alloc),
         added: None,
         room: 63,
+    }
+}
+
+// The object that a value is stands behind others.
+fn push_object(into: &mut List<usize>, value: Value) -> Result<(), NoMemory>
+    ensures { OnOk result (into.new ≡ into.old ++ object_of value) }
+{
+    match value {
+        Value::Object(at) => {
+            into.push(at)?;
+            Ok(())
+        }
+        _ => Ok(()),
     }
 }
 
@@ -45,6 +59,7 @@ fn put_attribute(
     if at < modules.len() {
         let mut module = modules.replace(at, new_module(alloc, 0, 0, ModuleKind::Plain));
         module.attributes.set(name, value)?;
+        push_object(&mut module.bound, value)?;
         modules.replace(at, module);
     }
     Ok(())
@@ -181,11 +196,15 @@ fn keep_module(
     Ok(place)
 }
 
-// How many modules there are, but for what stands among them for FSMs.
+// How many modules there are, but for what stands among them for FSMs and event managers.
 fn module_count(machine: &Machine) -> usize
     ensures { result ≡ module_count machine.now }
 {
-    machine.modules.len().saturating_sub(machine.fsms.len())
+    machine
+        .modules
+        .len()
+        .saturating_sub(machine.fsms.len())
+        .saturating_sub(machine.managers.len())
 }
 
 /// Makes a module, without attributes, with nothing added.
@@ -241,6 +260,9 @@ fn module_of_what(what: What) -> Option<usize>
         What::Module(at) => Some(at),
         What::Signal(_) | What::ClockDomain(_) | What::MultiReg | What::Fsm(_) => None,
         What::Memory(_) | What::Port(_) => None,
+        What::Register(_) | What::Field(_) | What::Constant(_) => None,
+        What::Region(_) | What::Interface(_) => None,
+        What::Manager(_) | What::Source(_) => None,
     }
 }
 
@@ -274,14 +296,27 @@ fn module_of_fsm(machine: &Machine, at: usize) -> Option<usize>
     }
 }
 
+// The module that stands for the event manager at a place.
+fn module_of_manager(machine: &Machine, at: usize) -> Option<usize>
+    ensures { result ≡ module_of_manager (slice_get machine.now.managers at) }
+{
+    match machine.managers.get(at) {
+        Some(manager) => Some(manager.module),
+        None => None,
+    }
+}
+
 fn added_of_what(machine: &Machine, what: What) -> Option<usize>
     ensures { result ≡ added_of_what machine.now what }
 {
     match what {
         What::Module(at) => Some(at),
         What::Fsm(at) => module_of_fsm(machine, at),
+        What::Manager(at) => module_of_manager(machine, at),
         What::Signal(_) | What::ClockDomain(_) | What::MultiReg => None,
         What::Memory(_) | What::Port(_) => None,
+        What::Register(_) | What::Field(_) | What::Constant(_) | What::Source(_) => None,
+        What::Region(_) | What::Interface(_) => None,
     }
 }
 
@@ -295,7 +330,7 @@ fn added_of_object(machine: &Machine, at: usize) -> Option<usize>
     }
 }
 
-/// The module that is added where a value is: itself, or what stands for an FSM.
+/// The module that is added where a value is: itself, or what stands for an FSM or an event manager.
 pub fn added_of(machine: &Machine, value: Value) -> Option<usize>
     ensures { result ≡ added_of machine.now value }
 {
@@ -438,7 +473,7 @@ fn add_objects(
     Ok(())
 }
 
-/// Adds modules and FSMs, which may stand in lists and tuples.
+/// Adds modules, FSMs and event managers, which may stand in lists and tuples.
 #[tactic(auto, unfolding(crate::specs::Modules::add_modules))]
 pub fn add_modules(
     machine: &mut Machine,
@@ -480,6 +515,16 @@ fn add_bound(
     add_some(machine, alloc, line, at, true, module)
 }
 
+// An object that an attribute of the module binds itself.
+fn settle(machine: &mut Machine, at: usize, value: Value)
+    ensures { settle at value machine.old ≡ Ok (tt, machine.new) }
+{
+    match value {
+        Value::Object(object) => machine.settle_object(at, object),
+        _ => {}
+    }
+}
+
 /// Binds an attribute, and adds nothing.
 #[tactic(auto, unfolding(crate::specs::Modules::bind_attribute, crate::specs::Modules::change_module))]
 pub fn bind_attribute(
@@ -495,11 +540,12 @@ pub fn bind_attribute(
     declare_bound(machine, line, name, value)?;
     machine.name_fits(line, name)?;
     machine.bind_name(alloc, Binding::Attribute, name, value)?;
+    settle(machine, at, value);
     put_attribute(alloc, &mut machine.modules, at, name, value)?;
     Ok(())
 }
 
-/// Binds an attribute; in a `LiteXModule` and in a `SoCCore` a module or an FSM is added by this.
+/// Binds an attribute; in a `LiteXModule` and in a `SoCCore` a module, an FSM or an event manager is added by this.
 #[tactic(auto, unfolding(crate::specs::Modules::set_attribute))]
 pub fn set_attribute(
     machine: &mut Machine,

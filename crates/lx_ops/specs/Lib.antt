@@ -6,3 +6,4 @@ pub mod Items
 pub mod Places
 pub mod Targets
 pub mod Worked
+pub mod WorkedRegisters

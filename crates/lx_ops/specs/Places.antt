@@ -10,6 +10,10 @@ use Rattle.lx_state.specs.declared.values.Value.TheVariants as value
 use Rattle.lx_state.specs.Lists.{leaf_of}
 use Rattle.lx_state.specs.Step.{Step, give, fault, ◌>>=◌}
 use Rattle.lx_state.specs.declared.machine.Module.{Module}
+use Rattle.lx_state.specs.declared.machine.Object.{Object}
+use Rattle.lx_state.specs.declared.machine.What.{What}
+use Rattle.lx_state.specs.declared.machine.What.TheVariants as what
+use Rattle.lx_objects.specs.Events.{bind_source}
 use Rattle.lx_objects.specs.Ios.{ios_of}
 use Rattle.lx_objects.specs.Modules.{add_comb, add_module, add_modules, add_sync, added_of, bind_attribute, module_of, set_attribute}
 use Rattle.lx_objects.specs.Statements.{are_all, only}
@@ -77,9 +81,31 @@ bind_added line to name v at = do
   _ ← add_module line to true at
   bind_attribute line to name v
 
-abbrev pub bind_module : ℕ → List ℕ → Value → Option ℕ → Step (Unit {0})
-bind_module line name v None m = fault line kind.WrongKind m
-bind_module line name v (Some at) m = bind_own line at name v m
+-- the event manager that an object is
+abbrev pub manager_of_what : What → Option ℕ
+manager_of_what (what.Manager k) = Some k
+manager_of_what _ = None
+
+abbrev pub manager_of_object : Option Object → Option ℕ
+manager_of_object None = None
+manager_of_object (Some o) = manager_of_what o.what
+
+abbrev pub manager_of : Machine → Value → Option ℕ
+manager_of m (value.Object at) = manager_of_object (slice_get m.objects at)
+manager_of m _ = None
+
+abbrev pub bind_managed : ℕ → List ℕ → Value → Option ℕ → Step (Unit {0})
+bind_managed line name v None m = fault line kind.WrongKind m
+bind_managed line name v (Some k) m = bind_source line k name v m
+
+-- no fragment of a module is bound
+abbrev pub bind_module : ℕ → ℕ → List ℕ → Value → Step (Unit {0})
+bind_module line at name v m = if is_some (fragment_named name) then fault line kind.WrongKind m else bind_own line at name v m
+
+-- on a module everything is bound, and on an event manager sources
+abbrev pub bind_plain : ℕ → Value → List ℕ → Value → Option ℕ → Step (Unit {0})
+bind_plain line o name v None m = bind_managed line name v (manager_of m o) m
+bind_plain line o name v (Some at) m = bind_module line at name v m
 
 abbrev pub bind_submodule : ℕ → ℕ → List ℕ → Value → Option ℕ → Step (Unit {0})
 bind_submodule line to name v None m = fault line kind.WrongKind m
@@ -87,27 +113,26 @@ bind_submodule line to name v (Some at) m = bind_added line to name v at m
 
 -- whether a value is an object of a kind itself
 abbrev pub is_leaf : Leaves → Machine → Value → Bool
-is_leaf what m (value.Object at) = are_all what (leaf_of (slice_get m.objects at))
-is_leaf what m _ = false
+is_leaf these m (value.Object at) = are_all these (leaf_of (slice_get m.objects at))
+is_leaf these m _ = false
 
 abbrev pub bind_special : ℕ → ℕ → List ℕ → Value → Bool → Step (Unit {0})
 bind_special line to name v true m = bind_own line to name v m
 bind_special line to name v false m = fault line kind.WrongKind m
 
--- of what is built modules, FSMs, `MultiReg`s and `ClockDomain`s can be bound so
 abbrev pub bind_under : ℕ → ℕ → List ℕ → Value → Fragment → Step (Unit {0})
 bind_under line to name v fragment.Submodules m = bind_submodule line to name v (added_of m v) m
 bind_under line to name v fragment.Specials m = bind_special line to name v (is_leaf leaves.Specials m v) m
 bind_under line to name v fragment.ClockDomains m = bind_special line to name v (is_leaf leaves.ClockDomains m v) m
 bind_under line to name v _ m = fault line kind.WrongKind m
 
-abbrev pub bind_held : ℕ → Holder → List ℕ → Value → Step (Unit {0})
-bind_held line (holder.Plain o) name v m = bind_module line name v (module_of m o) m
-bind_held line (holder.Part p) name v m = bind_under line p.module_ name v p.fragment m
+abbrev pub bind_part : ℕ → List ℕ → Value → Part → Step (Unit {0})
+bind_part line name v p m = if is_some (fragment_named name) then fault line kind.WrongKind m else bind_under line p.module_ name v p.fragment m
 
--- `h.name = v`; no fragment is bound
+-- `h.name = v`
 unfoldable pub bind_at : ℕ → Holder → List ℕ → Value → Step (Unit {0})
-bind_at line h name v m = if is_some (fragment_named name) then fault line kind.WrongKind m else bind_held line h name v m
+bind_at line (holder.Plain o) name v m = bind_plain line o name v (module_of m o) m
+bind_at line (holder.Part p) name v m = bind_part line name v p m
 
 -- ---- adding
 

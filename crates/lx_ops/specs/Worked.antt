@@ -28,6 +28,8 @@ use Rattle.lx_state.specs.declared.machine.PortState.{PortState}
 use Rattle.lx_state.specs.declared.machine.Submodule.{Submodule}
 use Rattle.lx_state.specs.declared.machine.What.{What}
 use Rattle.lx_state.specs.declared.machine.What.TheVariants as what
+use Rattle.lx_state.specs.declared.values.Builtin.TheVariants as builtin
+use Rattle.lx_state.specs.declared.values.Hub.TheVariants as hub
 use Rattle.lx_state.specs.declared.values.Method.TheVariants as method
 use Rattle.lx_state.specs.declared.values.Value.{Value}
 use Rattle.lx_state.specs.declared.values.Value.TheVariants as value
@@ -95,10 +97,10 @@ abbrev pub int : ℕ → Value
 int n = value.Int (pos n)
 
 abbrev pub an_object : What → Object
-an_object what_ = record { what = what_; line = 1; maker = None; given = None; by_attribute = None; by_local = None }
+an_object what_ = record { what = what_; line = 1; maker = None; given = None; by_attribute = None; by_local = None; home = None }
 
 abbrev pub a_module : ModuleKind → Module
-a_module kind_ = record { object = 0; class = 0; kind = kind_; attributes = (codes "x", value.Int (pos 5)) ∷ []; comb = []; sync = []; submodules = []; added = None; room = 63 }
+a_module kind_ = record { object = 0; class = 0; kind = kind_; attributes = (codes "x", value.Int (pos 5)) ∷ []; bound = []; comb = []; sync = []; submodules = []; added = None; room = 63 }
 
 abbrev pub a_statement : Form → Made
 a_statement f = record { form = f; line = 1; size = 1; depth = 1; in_state = false }
@@ -234,7 +236,12 @@ pub record HaveAttributes : Type 0 where
   pub branch : value_of (attribute_of 9 (value.Made 0) (codes "Else") top) ≡ Ok (value.Method (method.Else 0))
   pub second_else : value_of (attribute_of 9 (value.Made 1) (codes "Else") top) ≡ at_nine kind.WrongKind
   pub own : value_of (attribute_of 9 (value.Object 0) (codes "x") top) ≡ Ok (int 5)
-  pub not_built : value_of (attribute_of 9 (value.Object 0) (codes "bus") top) ≡ at_nine kind.NotYetBuilt
+  pub bus : value_of (attribute_of 9 (value.Object 0) (codes "bus") top) ≡ Ok (value.Hub hub.Bus)
+  pub add_slave : value_of (attribute_of 9 (value.Hub hub.Bus) (codes "add_slave") top) ≡ Ok (value.Method method.AddSlave)
+  pub add_bank : value_of (attribute_of 9 (value.Hub hub.Csr) (codes "add") top) ≡ Ok (value.Method method.AddBank)
+  pub add_interrupt : value_of (attribute_of 9 (value.Hub hub.Irq) (codes "add") top) ≡ Ok (value.Method method.AddInterrupt)
+  pub no_slave : value_of (attribute_of 9 (value.Hub hub.Csr) (codes "add_slave") top) ≡ at_nine (kind.UnknownName (codes "add_slave"))
+  pub interface : value_of (attribute_of 9 (value.Builtin builtin.Wishbone) (codes "Interface") top) ≡ Ok (value.Method method.Interface)
   pub fragment_as_value : value_of (attribute_of 9 (value.Object 0) (codes "comb") top) ≡ at_nine kind.WrongKind
   pub fragment_in_place : value_of (holder_of 9 (value.Object 0) (codes "sync") top) ≡ Ok (under fragment.Sync)
   pub domain_is_bound : value_of (bind_at 9 (under fragment.Sync) (codes "pix") a top) ≡ at_nine kind.WrongKind

@@ -1,14 +1,19 @@
 //! Attributes of values, and the fragments of modules.
 
-ghost use Rattle.std.specs.Prelude.{◌≡◌, codes, slice_get};
+ghost use Rattle.std.specs.Prelude.{◌≡◌, ◌≤◌, codes, length, slice_get};
+ghost use Rattle.lx_objects.specs.Events.{source_parts};
+ghost use Rattle.lx_objects.specs.Registers.{device_parts, own_parts};
+ghost use Rattle.lx_objects.specs.Systems.{interface_parts};
 ghost use Rattle.lx_state.specs.Step.{Gives};
-ghost use Rattle.lx_ops.specs.Attributes.{attribute_of, branch, builtin_attribute, fragment_named, fsm_attribute, if_branch, is_system, is_system_name, is_unbuilt, last_branch, made_attribute, memory_attribute, module_attribute, object_attribute, port_attribute, single, what_attribute, writing_attribute};
+ghost use Rattle.lx_ops.specs.Attributes.{attribute_of, branch, builtin_attribute, field_attribute, field_names, fragment_named, fsm_attribute, hub_attribute, if_branch, interface_attribute, is_system, last_branch, made_attribute, manager_attribute, manager_name, memory_attribute, module_attribute, named_source, object_attribute, place_among, port_attribute, read_there, register_attribute, single, source_attribute, source_value, system_name, system_value, what_attribute, writing_attribute};
 
+use lx_description::{Field, RegDecl, RegKind};
+use lx_fhdl::ExprId;
 use lx_objects::modules::attribute;
 use lx_state::machine::Writing;
 use lx_state::work::{fault, unknown};
-use lx_state::{Builtin, Form, Machine, Method, ModuleKind, Value, What};
-use lx_text::{Kind, Refusal};
+use lx_state::{Builtin, Form, Hub, Machine, Method, ModuleKind, Value, What};
+use lx_text::{Kind, List, Refusal};
 use std::alloc::Global;
 
 /// A part of a module to which statements or objects are added.
@@ -50,27 +55,40 @@ pub fn is_system(kind: ModuleKind) -> bool
     }
 }
 
-// Whether a system's top has this name besides its attributes.
-fn is_system_name(name: &[u8]) -> bool
-    ensures { result ≡ is_system_name name.now }
+// What a system's top has besides its attributes.
+fn system_name(name: &[u8]) -> Option<Value>
+    ensures { result ≡ system_name name.now }
 {
-    name == b"bus".as_slice()
-        || name == b"csr".as_slice()
-        || name == b"irq".as_slice()
-        || name == b"add_ram".as_slice()
-        || name == b"add_rom".as_slice()
-        || name == b"add_constant".as_slice()
+    if name == b"bus".as_slice() {
+        Some(Value::Hub(Hub::Bus))
+    } else if name == b"csr".as_slice() {
+        Some(Value::Hub(Hub::Csr))
+    } else if name == b"irq".as_slice() {
+        Some(Value::Hub(Hub::Irq))
+    } else if name == b"add_ram".as_slice() {
+        Some(Value::Method(Method::AddRam))
+    } else if name == b"add_rom".as_slice() {
+        Some(Value::Method(Method::AddRom))
+    } else if name == b"add_constant".as_slice() {
+        Some(Value::Method(Method::AddConstant))
+    } else {
+        None
+    }
 }
 
-// Whether it is such a name, and no attribute has it.
-fn is_unbuilt(machine: &Machine, at: usize, name: &[u8]) -> bool
-    ensures { result ≡ is_unbuilt name.now (slice_get machine.now.modules at) }
+// The same of the module at a place, where no attribute has the name.
+fn system_value(machine: &Machine, at: usize, name: &[u8]) -> Option<Value>
+    ensures { result ≡ system_value name.now (slice_get machine.now.modules at) }
 {
     match machine.modules.get(at) {
         Some(module) => {
-            is_system(module.kind) && is_system_name(name) && module.attributes.get(name).is_none()
+            if is_system(module.kind) && module.attributes.get(name).is_none() {
+                system_name(name)
+            } else {
+                None
+            }
         }
-        None => false,
+        None => None,
     }
 }
 
@@ -88,10 +106,36 @@ fn module_attribute(
     if fragment_named(name).is_some() {
         return Err(fault(line, Kind::WrongKind));
     }
-    if is_unbuilt(machine, at, name) {
-        return Err(fault(line, Kind::NotYetBuilt));
+    match system_value(machine, at, name) {
+        Some(value) => Ok(value),
+        None => attribute(machine, alloc, line, at, name),
     }
-    attribute(machine, alloc, line, at, name)
+}
+
+// Where a system is asked for places.
+fn hub_attribute(
+    machine: &Machine,
+    alloc: Global,
+    line: u32,
+    name: &[u8],
+    hub: Hub,
+) -> Result<Value, Refusal>
+    ensures { Gives result machine.now (hub_attribute line name.now hub machine.now) }
+{
+    match hub {
+        Hub::Bus => {
+            let add = Value::Method(Method::AddSlave);
+            single(machine, alloc, line, name, b"add_slave", add)
+        }
+        Hub::Csr => {
+            let add = Value::Method(Method::AddBank);
+            single(machine, alloc, line, name, b"add", add)
+        }
+        Hub::Irq => {
+            let add = Value::Method(Method::AddInterrupt);
+            single(machine, alloc, line, name, b"add", add)
+        }
+    }
 }
 
 // A method of an FSM.
@@ -181,6 +225,314 @@ fn port_attribute(
     }
 }
 
+// The signal that one of these expressions reads.
+fn read_there(
+    machine: &Machine,
+    alloc: Global,
+    line: u32,
+    name: &[u8],
+    reads: &List<ExprId>,
+    place: Option<usize>,
+) -> Result<Value, Refusal>
+    ensures { Gives result machine.now (read_there line name.now reads.now place machine.now) }
+{
+    let _machine = machine;
+    match place {
+        Some(place) => match reads.get(place) {
+            Some(read) => Ok(Value::Expr(*read)),
+            None => Err(unknown(alloc, line, name)),
+        },
+        None => Err(unknown(alloc, line, name)),
+    }
+}
+
+// The place of a signal by which the circuit writes a storage.
+#[tactic(auto, unfolding(crate::specs::Attributes::place_among))]
+fn device_place(from_dev: bool, name: &[u8]) -> Option<usize>
+    ensures { result ≡ place_among 2 name.now (device_parts from_dev) }
+{
+    if !from_dev {
+        None
+    } else if name == b"we".as_slice() {
+        Some(2)
+    } else if name == b"dat_w".as_slice() {
+        Some(3)
+    } else {
+        None
+    }
+}
+
+// The place of a register's own signal.
+#[tactic(auto, unfolding(crate::specs::Attributes::place_among))]
+fn own_place(register: &RegDecl, name: &[u8]) -> Option<usize>
+    ensures { result ≡ place_among 0 name.now (own_parts register.now register.now.kind) }
+{
+    match register.kind {
+        RegKind::Storage => {
+            if name == b"storage".as_slice() {
+                Some(0)
+            } else if name == b"re".as_slice() {
+                Some(1)
+            } else {
+                device_place(register.from_dev, name)
+            }
+        }
+        RegKind::Status => {
+            if name == b"status".as_slice() {
+                Some(0)
+            } else if name == b"we".as_slice() {
+                Some(1)
+            } else {
+                None
+            }
+        }
+        RegKind::Raw => {
+            if name == b"r".as_slice() {
+                Some(0)
+            } else if name == b"re".as_slice() {
+                Some(1)
+            } else if name == b"w".as_slice() {
+                Some(2)
+            } else if name == b"we".as_slice() {
+                Some(3)
+            } else {
+                None
+            }
+        }
+        RegKind::Pending => None,
+    }
+}
+
+// How many signals a register has, those of its fields aside.
+fn own_count(register: &RegDecl) -> usize
+    ensures count { result ≡ length (own_parts register.now register.now.kind) }
+    ensures few { result ≤ 4 }
+{
+    match register.kind {
+        RegKind::Storage => if register.from_dev { 4 } else { 2 },
+        RegKind::Status => 2,
+        RegKind::Raw => 4,
+        RegKind::Pending => 0,
+    }
+}
+
+// The place of the signal of the first field with a name, where the fields' signals begin at a place.
+#[tactic(auto, unfolding(crate::specs::Attributes::place_among))]
+fn field_place(first: usize, name: &[u8], fields: &[Field]) -> Option<usize>
+    requires { first ≤ 4 }
+    ensures { result ≡ place_among first name.now (field_names fields.now) }
+{
+    for (place, field) in fields.iter().enumerate() {
+        if name == field.name.as_bytes() {
+            return Some(first + place);
+        }
+    }
+    None
+}
+
+// A signal of a register, or its fields.
+fn register_attribute(
+    machine: &Machine,
+    alloc: Global,
+    line: u32,
+    name: &[u8],
+    at: usize,
+) -> Result<Value, Refusal>
+    ensures { Gives result machine.now (register_attribute line name.now at (slice_get machine.now.registers at) machine.now) }
+{
+    match machine.registers.get(at) {
+        Some(register) => {
+            if name == b"fields".as_slice() {
+                Ok(Value::Fields(at))
+            } else {
+                let place = own_place(&register.decl, name);
+                read_there(machine, alloc, line, name, &register.reads, place)
+            }
+        }
+        None => Err(unknown(alloc, line, name)),
+    }
+}
+
+// The signal of a field of a register.
+fn field_attribute(
+    machine: &Machine,
+    alloc: Global,
+    line: u32,
+    name: &[u8],
+    at: usize,
+) -> Result<Value, Refusal>
+    ensures { Gives result machine.now (field_attribute line name.now (slice_get machine.now.registers at) machine.now) }
+{
+    match machine.registers.get(at) {
+        Some(register) => {
+            let first = own_count(&register.decl);
+            let place = field_place(first, name, register.decl.fields.as_slice());
+            read_there(machine, alloc, line, name, &register.reads, place)
+        }
+        None => Err(unknown(alloc, line, name)),
+    }
+}
+
+#[tactic(auto, unfolding(crate::specs::Attributes::place_among))]
+fn source_place(name: &[u8]) -> Option<usize>
+    ensures { result ≡ place_among 0 name.now source_parts }
+{
+    if name == b"trigger".as_slice() {
+        Some(0)
+    } else if name == b"status".as_slice() {
+        Some(1)
+    } else if name == b"pending".as_slice() {
+        Some(2)
+    } else if name == b"clear".as_slice() {
+        Some(3)
+    } else {
+        None
+    }
+}
+
+// A signal of a source of events.
+fn source_attribute(
+    machine: &Machine,
+    alloc: Global,
+    line: u32,
+    name: &[u8],
+    at: usize,
+) -> Result<Value, Refusal>
+    ensures { Gives result machine.now (source_attribute line name.now (slice_get machine.now.sources at) machine.now) }
+{
+    match machine.sources.get(at) {
+        Some(source) => read_there(
+            machine,
+            alloc,
+            line,
+            name,
+            &source.reads,
+            source_place(name),
+        ),
+        None => Err(unknown(alloc, line, name)),
+    }
+}
+
+#[tactic(auto, unfolding(crate::specs::Attributes::place_among))]
+fn interface_place(name: &[u8]) -> Option<usize>
+    ensures { result ≡ place_among 0 name.now interface_parts }
+{
+    if name == b"adr".as_slice() {
+        Some(0)
+    } else if name == b"dat_w".as_slice() {
+        Some(1)
+    } else if name == b"dat_r".as_slice() {
+        Some(2)
+    } else if name == b"sel".as_slice() {
+        Some(3)
+    } else if name == b"cyc".as_slice() {
+        Some(4)
+    } else if name == b"stb".as_slice() {
+        Some(5)
+    } else if name == b"we".as_slice() {
+        Some(6)
+    } else if name == b"ack".as_slice() {
+        Some(7)
+    } else if name == b"err".as_slice() {
+        Some(8)
+    } else {
+        None
+    }
+}
+
+// A signal of an interface of the bus.
+fn interface_attribute(
+    machine: &Machine,
+    alloc: Global,
+    line: u32,
+    name: &[u8],
+    at: usize,
+) -> Result<Value, Refusal>
+    ensures { Gives result machine.now (interface_attribute line name.now (slice_get machine.now.interfaces at) machine.now) }
+{
+    match machine.interfaces.get(at) {
+        Some(interface) => read_there(
+            machine,
+            alloc,
+            line,
+            name,
+            &interface.reads,
+            interface_place(name),
+        ),
+        None => Err(unknown(alloc, line, name)),
+    }
+}
+
+fn source_value(
+    machine: &Machine,
+    alloc: Global,
+    line: u32,
+    name: &[u8],
+    at: usize,
+) -> Result<Value, Refusal>
+    ensures { Gives result machine.now (source_value line name.now (slice_get machine.now.sources at) machine.now) }
+{
+    match machine.sources.get(at) {
+        Some(source) => Ok(Value::Object(source.object)),
+        None => Err(unknown(alloc, line, name)),
+    }
+}
+
+// What an event manager has besides its sources.
+fn manager_name(
+    machine: &Machine,
+    alloc: Global,
+    line: u32,
+    name: &[u8],
+    irq: ExprId,
+) -> Result<Value, Refusal>
+    ensures { Gives result machine.now (manager_name line name.now irq machine.now) }
+{
+    let _machine = machine;
+    if name == b"irq".as_slice() {
+        Ok(Value::Expr(irq))
+    } else if name == b"finalize".as_slice() {
+        Ok(Value::Method(Method::Finalize))
+    } else {
+        Err(unknown(alloc, line, name))
+    }
+}
+
+fn named_source(
+    machine: &Machine,
+    alloc: Global,
+    line: u32,
+    name: &[u8],
+    irq: ExprId,
+    source: Option<usize>,
+) -> Result<Value, Refusal>
+    ensures { Gives result machine.now (named_source line name.now irq source machine.now) }
+{
+    match source {
+        Some(at) => source_value(machine, alloc, line, name, at),
+        None => manager_name(machine, alloc, line, name, irq),
+    }
+}
+
+// A source that is bound to an event manager, its interrupt, or its method.
+fn manager_attribute(
+    machine: &Machine,
+    alloc: Global,
+    line: u32,
+    name: &[u8],
+    at: usize,
+) -> Result<Value, Refusal>
+    ensures { Gives result machine.now (manager_attribute line name.now (slice_get machine.now.managers at) machine.now) }
+{
+    match machine.managers.get(at) {
+        Some(manager) => {
+            let source = manager.names.get(name);
+            named_source(machine, alloc, line, name, manager.read, source)
+        }
+        None => Err(unknown(alloc, line, name)),
+    }
+}
+
 fn what_attribute(
     machine: &Machine,
     alloc: Global,
@@ -196,6 +548,12 @@ fn what_attribute(
         What::Signal(_) | What::ClockDomain(_) | What::MultiReg => Err(unknown(alloc, line, name)),
         What::Memory(at) => memory_attribute(machine, alloc, line, name, at),
         What::Port(at) => port_attribute(machine, alloc, line, name, at),
+        What::Register(at) => register_attribute(machine, alloc, line, name, at),
+        What::Field(_) | What::Constant(_) => Err(unknown(alloc, line, name)),
+        What::Manager(at) => manager_attribute(machine, alloc, line, name, at),
+        What::Source(at) => source_attribute(machine, alloc, line, name, at),
+        What::Region(_) => Err(unknown(alloc, line, name)),
+        What::Interface(at) => interface_attribute(machine, alloc, line, name, at),
     }
 }
 
@@ -308,21 +666,18 @@ fn builtin_attribute(
 ) -> Result<Value, Refusal>
     ensures { Gives result machine.now (builtin_attribute line name.now builtin machine.now) }
 {
-    let _machine = machine;
     match builtin {
         Builtin::Wishbone => {
-            if name == b"Interface".as_slice() {
-                Err(fault(line, Kind::NotYetBuilt))
-            } else {
-                Err(unknown(alloc, line, name))
-            }
+            let interface = Value::Method(Method::Interface);
+            single(machine, alloc, line, name, b"Interface", interface)
         }
         _ => Err(unknown(alloc, line, name)),
     }
 }
 
 /// An attribute of a value: `eq` of an expression of FHDL, a further branch of an `If`, what was bound in a module, a
-/// method of an FSM or a memory, a signal of a memory's port, or the `__init__` of `super()`.
+/// method of an FSM or a memory, a signal of a memory's port, of a register, of one of its fields or of a source of
+/// events, a source that is bound to an event manager, or the `__init__` of `super()`.
 #[tactic(auto, unfolding(crate::specs::Attributes::attribute_of))]
 pub fn attribute_of(
     machine: &Machine,
@@ -340,6 +695,8 @@ pub fn attribute_of(
         }
         Value::Made(at) => made_attribute(machine, alloc, line, name, at),
         Value::Object(at) => object_attribute(machine, alloc, line, name, at),
+        Value::Fields(at) => field_attribute(machine, alloc, line, name, at),
+        Value::Hub(hub) => hub_attribute(machine, alloc, line, name, hub),
         Value::Super(at) => {
             let init = Value::Method(Method::Init(at));
             single(machine, alloc, line, name, b"__init__", init)

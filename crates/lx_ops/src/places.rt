@@ -2,9 +2,10 @@
 
 ghost use Rattle.std.specs.Prelude.{◌≡◌, slice_get};
 ghost use Rattle.lx_state.specs.Step.{Gives};
-ghost use Rattle.lx_ops.specs.Places.{add_at, add_fragment, add_part, add_under, adds, attribute_fits, bind_added, bind_at, bind_held, bind_module, bind_own, bind_special, bind_submodule, bind_under, held, holder_of, is_leaf, is_ports, is_sync, named_holder, part_named, part_of, read_at, setattr_holder, takes_names};
+ghost use Rattle.lx_ops.specs.Places.{add_at, add_fragment, add_part, add_under, adds, attribute_fits, bind_added, bind_at, bind_managed, bind_module, bind_own, bind_part, bind_plain, bind_special, bind_submodule, bind_under, held, holder_of, is_leaf, is_ports, is_sync, manager_of, manager_of_object, manager_of_what, named_holder, part_named, part_of, read_at, setattr_holder, takes_names};
 
 use crate::attributes::{Fragment, attribute_of, fragment_named};
+use lx_objects::events::bind_source;
 use lx_objects::ios::ios_of;
 use lx_objects::modules::{
     add_comb, add_module, add_modules, add_sync, added_of, bind_attribute, module_of, set_attribute,
@@ -12,7 +13,7 @@ use lx_objects::modules::{
 use lx_objects::statements::{are_all, only};
 use lx_paths::paths::is_top;
 use lx_state::work::fault;
-use lx_state::{Leaves, Machine, Value};
+use lx_state::{Leaves, Machine, Value, What};
 use lx_text::{Kind, Refusal};
 use std::alloc::Global;
 
@@ -168,19 +169,85 @@ fn bind_added(
     bind_attribute(machine, alloc, line, to, name, value)
 }
 
-fn bind_module(
+fn manager_of_what(what: What) -> Option<usize>
+    ensures { result ≡ manager_of_what what }
+{
+    match what {
+        What::Manager(at) => Some(at),
+        _ => None,
+    }
+}
+
+fn manager_of_object(machine: &Machine, at: usize) -> Option<usize>
+    ensures { result ≡ manager_of_object (slice_get machine.now.objects at) }
+{
+    match machine.objects.get(at) {
+        Some(object) => manager_of_what(object.what),
+        None => None,
+    }
+}
+
+/// The event manager that a value is.
+pub fn manager_of(machine: &Machine, value: Value) -> Option<usize>
+    ensures { result ≡ manager_of machine.now value }
+{
+    match value {
+        Value::Object(at) => manager_of_object(machine, at),
+        _ => None,
+    }
+}
+
+fn bind_managed(
     machine: &mut Machine,
     alloc: Global,
     line: u32,
     name: &[u8],
     value: Value,
+    manager: Option<usize>,
+) -> Result<(), Refusal>
+    ensures { Gives result machine.new (bind_managed line name.now value manager machine.old) }
+{
+    match manager {
+        Some(manager) => bind_source(machine, alloc, line, manager, name, value),
+        None => Err(fault(line, Kind::WrongKind)),
+    }
+}
+
+// No fragment of a module is bound.
+fn bind_module(
+    machine: &mut Machine,
+    alloc: Global,
+    line: u32,
+    at: usize,
+    name: &[u8],
+    value: Value,
+) -> Result<(), Refusal>
+    ensures { Gives result machine.new (bind_module line at name.now value machine.old) }
+{
+    if fragment_named(name).is_some() {
+        return Err(fault(line, Kind::WrongKind));
+    }
+    bind_own(machine, alloc, line, at, name, value)
+}
+
+// Binds an attribute of a module, or of an event manager.
+fn bind_plain(
+    machine: &mut Machine,
+    alloc: Global,
+    line: u32,
+    of: Value,
+    name: &[u8],
+    value: Value,
     at: Option<usize>,
 ) -> Result<(), Refusal>
-    ensures { Gives result machine.new (bind_module line name.now value at machine.old) }
+    ensures { Gives result machine.new (bind_plain line of name.now value at machine.old) }
 {
     match at {
-        Some(at) => bind_own(machine, alloc, line, at, name, value),
-        None => Err(fault(line, Kind::WrongKind)),
+        Some(at) => bind_module(machine, alloc, line, at, name, value),
+        None => {
+            let manager = manager_of(machine, of);
+            bind_managed(machine, alloc, line, name, value, manager)
+        }
     }
 }
 
@@ -258,36 +325,32 @@ fn bind_under(
     }
 }
 
-fn bind_held(
+fn bind_part(
     machine: &mut Machine,
     alloc: Global,
     line: u32,
-    holder: Holder,
     name: &[u8],
     value: Value,
+    part: Part,
 ) -> Result<(), Refusal>
-    ensures { Gives result machine.new (bind_held line holder name.now value machine.old) }
+    ensures { Gives result machine.new (bind_part line name.now value part machine.old) }
 {
-    match holder {
-        Holder::Plain(of) => {
-            let at = module_of(machine, of);
-            bind_module(machine, alloc, line, name, value, at)
-        }
-        Holder::Part(part) => {
-            bind_under(
-                machine,
-                alloc,
-                line,
-                part.module_,
-                name,
-                value,
-                part.fragment,
-            )
-        }
+    if fragment_named(name).is_some() {
+        return Err(fault(line, Kind::WrongKind));
     }
+    bind_under(
+        machine,
+        alloc,
+        line,
+        part.module_,
+        name,
+        value,
+        part.fragment,
+    )
 }
 
-/// Binds an attribute; no fragment is bound.
+/// Binds an attribute: of a module, where no fragment is bound, or of an event manager, which takes sources of events
+/// alone.
 #[tactic(auto, unfolding(crate::specs::Places::bind_at))]
 pub fn bind_at(
     machine: &mut Machine,
@@ -299,10 +362,13 @@ pub fn bind_at(
 ) -> Result<(), Refusal>
     ensures { Gives result machine.new (bind_at line holder name.now value machine.old) }
 {
-    if fragment_named(name).is_some() {
-        return Err(fault(line, Kind::WrongKind));
+    match holder {
+        Holder::Plain(of) => {
+            let at = module_of(machine, of);
+            bind_plain(machine, alloc, line, of, name, value, at)
+        }
+        Holder::Part(part) => bind_part(machine, alloc, line, name, value, part),
     }
-    bind_held(machine, alloc, line, holder, name, value)
 }
 
 fn is_sync(fragment: Fragment) -> bool

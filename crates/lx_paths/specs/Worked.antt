@@ -1,15 +1,23 @@
 -- Names and paths worked by hand.
-use Rattle.std.specs.Prelude.{◌≡◌, ℕ, List, [], ◌∷◌, codes, Option, Some, None, Ok}
+use Rattle.std.specs.Prelude.{◌≡◌, ℕ, pos, false, true, List, [], ◌∷◌, codes, map, Option, Some, None, Ok}
 use Rattle.lx_fhdl.specs.Drafts.{started}
-use Rattle.lx_fhdl.specs.Instance.{signal_of, the_signal}
+use Rattle.lx_fhdl.specs.Instance.{signal_of, the_expr, the_signal}
+use Rattle.lx_description.specs.declared.registers.RegDecl.{RegDecl}
+use Rattle.lx_description.specs.declared.registers.RegKind.{RegKind}
+use Rattle.lx_description.specs.declared.registers.RegKind.TheVariants as register
+use Rattle.lx_description.specs.declared.registers.SourceKind.{SourceKind}
+use Rattle.lx_description.specs.declared.registers.SourceKind.TheVariants as source
 use Rattle.lx_state.specs.declared.values.Value.TheVariants as value
 use Rattle.lx_state.specs.declared.machine.Binding.TheVariants as binding
 use Rattle.lx_state.specs.declared.machine.Fsm.{Fsm}
 use Rattle.lx_state.specs.declared.machine.Machine.{Machine}
+use Rattle.lx_state.specs.declared.machine.ManagerState.{ManagerState}
 use Rattle.lx_state.specs.declared.machine.Module.{Module}
 use Rattle.lx_state.specs.declared.machine.ModuleKind.TheVariants as bases
 use Rattle.lx_state.specs.declared.machine.Object.{Object}
 use Rattle.lx_state.specs.declared.machine.Owner.{Owner}
+use Rattle.lx_state.specs.declared.machine.RegisterState.{RegisterState}
+use Rattle.lx_state.specs.declared.machine.SourceState.{SourceState}
 use Rattle.lx_state.specs.declared.machine.What.{What}
 use Rattle.lx_state.specs.declared.machine.What.TheVariants as what
 use Rattle.lx_state.specs.Naming.{bind_name}
@@ -22,13 +30,13 @@ Name = Option (List ℕ)
 
 -- a signal, or a module, with its maker, and the names that it was bound to
 abbrev pub a_signal : Option ℕ → Name → Name → Object
-a_signal maker attribute local = record { what = what.Signal (the_signal 0); line = 1; maker = maker; given = None; by_attribute = attribute; by_local = local }
+a_signal maker attribute local = record { what = what.Signal (the_signal 0); line = 1; maker = maker; given = None; by_attribute = attribute; by_local = local; home = None }
 
 abbrev pub a_module : ℕ → Option ℕ → Name → Name → Object
-a_module at maker attribute local = record { what = what.Module at; line = 1; maker = maker; given = None; by_attribute = attribute; by_local = local }
+a_module at maker attribute local = record { what = what.Module at; line = 1; maker = maker; given = None; by_attribute = attribute; by_local = local; home = None }
 
 abbrev pub the_module : ℕ → ℕ → Module
-the_module object class = record { object = object; class = class; kind = bases.Plain; attributes = []; comb = []; sync = []; submodules = []; added = None; room = 63 }
+the_module object class = record { object = object; class = class; kind = bases.Plain; attributes = []; bound = []; comb = []; sync = []; submodules = []; added = None; room = 63 }
 
 abbrev pub whose : ℕ → Name → Owner
 whose object part = record { object = object; part = part }
@@ -95,6 +103,44 @@ memories = record start {
   shaped = started (signal_of [] 2 0 ∷ signal_of [] 2 0 ∷ signal_of [] 2 0 ∷ signal_of [] 2 0 ∷ []) [];
 }
 
+-- ---- registers and events
+
+abbrev pub no_reset : ℕ → RegKind → RegDecl
+no_reset size kind_ = record { name = []; kind = kind_; size = size; reset = pos 0; atomic = false; from_dev = false; fields = []; signals = []; line = 1 }
+
+abbrev pub a_register : RegKind → RegisterState
+a_register kind_ = record { decl = no_reset 8 kind_; reads = [] }
+
+abbrev pub a_source : ℕ → SourceKind → SourceState
+a_source object kind_ = record { object = object; kind = kind_; signals = []; reads = []; bound = true }
+
+abbrev pub a_manager : ℕ → ManagerState
+a_manager object = record { object = object; «module» = 2; sources = 0 ∷ []; names = []; irq = the_signal 3; read = the_expr 0; enable = the_signal 4 }
+
+-- In its module `t` the top has a storage `_load`, a status `__2nd`, a raw register that nothing binds, and an event manager
+-- `ev` with a source `_zero`. A source that nothing binds has `enable` as a local name.
+abbrev pub registers : Machine
+registers = record start {
+  classes = a_class (codes "Timer") ∷ a_class (codes "Top") ∷ [];
+  objects = a_module 0 None None None ∷ a_module 1 (Some 0) (Some (codes "t")) None
+      ∷ an_object (what.Register 0) (Some 1) (Some (codes "_load")) None ∷ an_object (what.Register 1) (Some 1) (Some (codes "__2nd")) None ∷ an_object (what.Register 2) (Some 1) None None
+      ∷ an_object (what.Manager 0) (Some 1) (Some (codes "ev")) None ∷ an_object (what.Source 0) (Some 1) (Some (codes "_zero")) None ∷ an_object (what.Source 1) (Some 1) None (Some (codes "enable")) ∷ [];
+  modules = the_module 0 1 ∷ the_module 1 0 ∷ the_module 5 0 ∷ [];
+  registers = a_register register.Storage ∷ a_register register.Status ∷ a_register register.Raw ∷ [];
+  managers = a_manager 5 ∷ [];
+  sources = a_source 6 source.Pulse ∷ a_source 7 source.Rising ∷ [];
+  owners = whose 2 (Some (codes "storage")) ∷ whose 3 (Some (codes "status")) ∷ whose 4 (Some (codes "r")) ∷ whose 5 (Some (codes "irq")) ∷ whose 5 (Some (codes "enable")) ∷ whose 6 (Some (codes "trigger")) ∷ whose 7 (Some (codes "enable")) ∷ [];
+  shaped = started (signal_of [] 8 0 ∷ signal_of [] 8 0 ∷ signal_of [] 8 0 ∷ signal_of [] 1 0 ∷ signal_of [] 1 0 ∷ signal_of [] 1 0 ∷ signal_of [] 1 0 ∷ []) [];
+}
+
+-- the name of what nothing names
+abbrev pub nameless : What → List ℕ
+nameless what_ = own_name registers (an_object what_ (Some 1) None None)
+
+-- the name of what an attribute binds
+abbrev pub bound_to : List ℕ → What → List ℕ
+bound_to name what_ = own_name registers (an_object what_ (Some 1) (Some name) None)
+
 -- What the names and paths are.
 pub record AreWorked : Type 0 where
   -- modules of a loop have the loop's name, and their paths needn't differ
@@ -124,3 +170,14 @@ pub record AreWorked : Type 0 where
   pub memory : path_of memories 1 None ≡ codes "table" ∷ []
   pub unnamed_memory : path_of memories 4 None ≡ codes "row" ∷ codes "mem" ∷ []
   pub of_ports : signal_paths memories ≡ (codes "rd" ∷ codes "adr" ∷ []) ∷ (codes "rd" ∷ codes "dat_r" ∷ []) ∷ (codes "row" ∷ codes "port" ∷ codes "adr" ∷ []) ∷ (codes "row" ∷ codes "port" ∷ codes "dat_r" ∷ []) ∷ []
+  -- registers lose the underscores that their names begin with, where a name is left; what else there is keeps them, and the
+  -- `enable` of a manager has no path
+  pub of_registers : signal_paths registers ≡ (codes "t" ∷ codes "load" ∷ codes "storage" ∷ []) ∷ (codes "t" ∷ codes "__2nd" ∷ codes "status" ∷ []) ∷ (codes "t" ∷ codes "csr" ∷ codes "r" ∷ [])
+      ∷ (codes "t" ∷ codes "ev" ∷ codes "irq" ∷ []) ∷ [] ∷ (codes "t" ∷ codes "_zero" ∷ codes "trigger" ∷ []) ∷ (codes "t" ∷ codes "enable" ∷ codes "enable" ∷ []) ∷ []
+  pub underscores : bound_to (codes "__") (what.Register 0) ≡ codes "__"
+  pub inner_underscore : bound_to (codes "_a_b_") (what.Register 0) ≡ codes "a_b_"
+  pub given_underscore : own_name registers (record (an_object (what.Register 0) (Some 1) (Some (codes "b")) None) { given = Some (codes "_g") }) ≡ codes "g"
+  pub constant_underscore : bound_to (codes "_k") (what.Constant 0) ≡ codes "k"
+  pub manager_underscore : bound_to (codes "_ev") (what.Manager 0) ≡ codes "_ev"
+  pub kinds : map nameless (what.Register 0 ∷ what.Register 1 ∷ what.Register 2 ∷ what.Field 0 ∷ what.Constant 0 ∷ what.Manager 0 ∷ []) ≡ codes "csrstorage" ∷ codes "csrstatus" ∷ codes "csr" ∷ codes "csrfield" ∷ codes "csrconstant" ∷ codes "eventmanager" ∷ []
+  pub kinds_of_sources : map nameless (what.Source 0 ∷ what.Source 1 ∷ []) ≡ codes "eventsourcepulse" ∷ codes "eventsourceprocess" ∷ []

@@ -1,10 +1,10 @@
 //! The paths of objects and of signals: the names of the modules around them, and their own.
 
 ghost use Rattle.std.specs.Prelude.{◌≡◌, ◌++◌, ◌∷◌, [], IfOk, OnOk, Some, map, option_copied, option_to_list, reverse, slice_get};
-ghost use Rattle.lx_paths.specs.Paths.{fsm_part, is_top, maker_below, module_below, modules_around, object_fsm, object_path, own_name, owner_path, path_of, signal_paths, what_fsm};
+ghost use Rattle.lx_paths.specs.Paths.{fsm_part, is_enable, is_top, maker_below, module_below, modules_around, object_fsm, object_manager, object_path, own_name, owner_manager, owner_path, part_name, path_of, signal_paths, what_fsm, what_manager};
 
 use crate::names::own_name;
-use lx_state::machine::{Fsm, Machine, Module, Object, Owner, What};
+use lx_state::machine::{Fsm, Machine, ManagerState, Module, Object, Owner, What};
 use lx_state::naming::item_name;
 use lx_text::{List, NoMemory, Word};
 use std::alloc::Global;
@@ -129,7 +129,9 @@ fn what_fsm(machine: &Machine, what: What) -> Option<&Fsm>
     match what {
         What::Fsm(at) => machine.fsms.get(at),
         What::Signal(_) | What::Module(_) | What::ClockDomain(_) | What::MultiReg => None,
-        What::Memory(_) | What::Port(_) => None,
+        What::Memory(_) | What::Port(_) | What::Register(_) | What::Field(_) => None,
+        What::Constant(_) | What::Manager(_) | What::Source(_) => None,
+        What::Region(_) | What::Interface(_) => None,
     }
 }
 
@@ -156,10 +158,55 @@ fn fsm_part(alloc: Global, fsm: &Fsm, part: Option<&Word>) -> Result<Word, NoMem
     }
 }
 
+// ---- parts of event managers
+
+fn what_manager(machine: &Machine, what: What) -> Option<&ManagerState>
+    ensures { option_copied result ≡ what_manager machine.now what }
+{
+    match what {
+        What::Manager(at) => machine.managers.get(at),
+        What::Signal(_) | What::Module(_) | What::ClockDomain(_) | What::MultiReg => None,
+        What::Fsm(_) | What::Memory(_) | What::Port(_) | What::Register(_) => None,
+        What::Field(_) | What::Constant(_) | What::Source(_) => None,
+        What::Region(_) | What::Interface(_) => None,
+    }
+}
+
+// The event manager that the object at a place is.
+fn object_manager(machine: &Machine, at: usize) -> Option<&ManagerState>
+    ensures { option_copied result ≡ object_manager machine.now (slice_get machine.now.objects at) }
+{
+    match machine.objects.get(at) {
+        Some(object) => what_manager(machine, object.what),
+        None => None,
+    }
+}
+
+fn is_enable(part: Option<&Word>) -> bool
+    ensures { result ≡ is_enable (option_copied part.entry) }
+{
+    match part {
+        Some(part) => part.is(b"enable"),
+        None => false,
+    }
+}
+
+/// The event manager whose `enable` a signal of this owner is.
+pub fn owner_manager<'a>(machine: &'a Machine, owner: &Owner) -> Option<&'a ManagerState>
+    ensures { option_copied result ≡ owner_manager machine.now (Some owner.now) }
+{
+    if is_enable(owner.part.as_ref()) {
+        object_manager(machine, owner.object)
+    } else {
+        None
+    }
+}
+
 // ---- signals
 
-fn owner_path(machine: &Machine, alloc: Global, owner: &Owner) -> Result<List<Word>, NoMemory>
-    ensures { IfOk result (λ path. path ≡ owner_path machine.now (Some owner.now)) }
+// The path of a part of an object.
+fn part_path(machine: &Machine, alloc: Global, owner: &Owner) -> Result<List<Word>, NoMemory>
+    ensures { IfOk result (λ path. path ≡ path_of machine.now owner.now.object (part_name (object_fsm machine.now (slice_get machine.now.objects owner.now.object)) owner.now.part)) }
 {
     match object_fsm(machine, owner.object) {
         Some(fsm) => {
@@ -167,6 +214,15 @@ fn owner_path(machine: &Machine, alloc: Global, owner: &Owner) -> Result<List<Wo
             path_of(machine, alloc, owner.object, Some(&part))
         }
         None => path_of(machine, alloc, owner.object, owner.part.as_ref()),
+    }
+}
+
+fn owner_path(machine: &Machine, alloc: Global, owner: &Owner) -> Result<List<Word>, NoMemory>
+    ensures { IfOk result (λ path. path ≡ owner_path machine.now (Some owner.now)) }
+{
+    match owner_manager(machine, owner) {
+        Some(_) => Ok(List::new(alloc)),
+        None => part_path(machine, alloc, owner),
     }
 }
 

@@ -1,9 +1,8 @@
 -- Classes: going through them, and making their modules.
 use Rattle.std.specs.Prelude.{◌≡◌, ℕ, zero, suc, Bool, true, false, not, ◌||◌, ◌+◌, ◌-◌, List, [], ◌∷◌, ◌++◌, length, map, codes, slice_get, Option, Some, None, if◌then◌else◌}
-use Rattle.std.specs.List.{list_all}
+use Rattle.std.specs.List.{list_all, list_any}
 use Rattle.std.specs.Str.{bytes_eq}
 use Rattle.lx_text.specs.declared.faults.LimitKind.TheVariants as limit
-use Rattle.lx_text.specs.declared.faults.Kind.{Kind}
 use Rattle.lx_text.specs.declared.faults.Kind.TheVariants as kind
 use Rattle.lx_value.specs.declared.arguments.Param.{Param}
 use Rattle.lx_fhdl.specs.Keeping.{is_distinct}
@@ -21,6 +20,7 @@ use Rattle.lx_state.specs.Frames.{enter, leave, or_else, set_param}
 use Rattle.lx_state.specs.Step.{Step, give, fault, or_fault, ◌>>=◌}
 use Rattle.lx_state.specs.Work.{name_fits}
 use Rattle.lx_objects.specs.Modules.{module_made}
+use Rattle.lx_objects.specs.Systems.{system_begun}
 use Rattle.lx_builtins.specs.Arguments.{argument, bound_to}
 use Rattle.lx_run.specs.Calls.{Make}
 use Rattle.lx_run.specs.Running.{eval, execs}
@@ -122,16 +122,16 @@ with_lite bases.Soc = bases.Soc
 with_lite bases.Lite = bases.Lite
 with_lite bases.Plain = bases.Lite
 
--- only the last class may be a system, and systems are not built yet
-abbrev pub system_fault : Bool → Kind
-system_fault true = kind.NotYetBuilt
-system_fault false = kind.WrongKind
+-- only the last class may be a system
+abbrev pub as_system : ℕ → Bool → Step ModuleKind
+as_system line true = give bases.Soc
+as_system line false = fault line kind.WrongKind
 
 abbrev pub with_base : Bool → ast.Base → ModuleKind → Step ModuleKind
 with_base last base so_far =
     if bytes_eq base.name (codes "Module") || bytes_eq base.name (codes "AutoCSR") then give so_far
     else (if bytes_eq base.name (codes "LiteXModule") then give (with_lite so_far)
-    else (if bytes_eq base.name (codes "SoCCore") then fault base.line (system_fault last)
+    else (if bytes_eq base.name (codes "SoCCore") then as_system base.line last
     else fault base.line (kind.UnknownName base.name)))
 
 unfoldable pub bases_run : Bool → ModuleKind → List ast.Base → Step ModuleKind
@@ -204,9 +204,22 @@ all_have_defaults params = list_all (λ p. not (is_none p.default)) params
 unfoldable pub top_made : List ast.Class → ℕ → ast.Class → Step Value
 top_made classes at c m = if all_have_defaults c.params then module_run (make_within classes 63) c.line at c [] m else fault c.init_line kind.WrongCount m
 
+abbrev pub is_system_base : ast.Base → Bool
+is_system_base base = bytes_eq base.name (codes "SoCCore")
+
+abbrev pub is_system_class : Option ast.Class → Bool
+is_system_class None = false
+is_system_class (Some c) = list_any is_system_base c.bases
+
+-- a system begins before anything is run
+abbrev pub begun : Bool → Step (Unit {0})
+begun true = system_begun
+begun false = give tt
+
 -- The classes in their order, and the last one's module.
 unfoldable pub description_run : List ast.Class → Step Value
 description_run classes = do
+  _ ← begun (is_system_class (slice_get classes (length classes - 1)))
   _ ← classes_run (make_within classes 64) classes
   c ← or_fault (slice_get classes (length classes - 1)) 0 kind.NoTop
   top_made classes (length classes - 1) c

@@ -173,8 +173,7 @@ kind_of given_bases = value_of (bases_run true bases.Plain given_bases start)
 pub record ClassesAreRun : Type 0 where
   pub plain : kind_of (base 1 (codes "Module") ∷ base 1 (codes "AutoCSR") ∷ []) ≡ Ok bases.Plain
   pub lite : kind_of (base 1 (codes "Module") ∷ base 1 (codes "LiteXModule") ∷ []) ≡ Ok bases.Lite
-  -- systems are not built yet
-  pub system : kind_of (base 1 (codes "LiteXModule") ∷ base 2 (codes "SoCCore") ∷ []) ≡ at 2 kind.NotYetBuilt
+  pub system : kind_of (base 1 (codes "LiteXModule") ∷ base 2 (codes "SoCCore") ∷ []) ≡ Ok bases.Soc
   pub unknown_base : kind_of (base 1 (codes "Module") ∷ base 2 (codes "Other") ∷ []) ≡ unknown 2 (codes "Other")
   -- a system is the last class alone
   pub system_below : value_of (bases_run false bases.Plain (base 3 (codes "SoCCore") ∷ []) start) ≡ at 3 kind.WrongKind

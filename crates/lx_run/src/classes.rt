@@ -1,12 +1,13 @@
 //! Going through the classes of a description, and making its top.
 
 ghost use Rattle.std.specs.Prelude.{[], ◌≡◌, All, IfOk, length, map, slice_get};
+ghost use Rattle.std.specs.List.{list_any};
 ghost use Rattle.lx_syntax.specs.Classes.{base_of};
 ghost use Rattle.lx_syntax.specs.Forms.{bound_at, class_of, classes_of, expr_of, param_at};
 ghost use Rattle.lx_state.specs.Changes.{changed};
 ghost use Rattle.lx_state.specs.Step.{Gives};
 ghost use Rattle.lx_builtins.specs.Arguments.{argument, bound_to};
-ghost use Rattle.lx_run.specs.Classes.{all_have_defaults, are_params, bases_run, class_defaults, class_kind, class_run, classes_run, default_run, defaults_of, defaults_run, description_run, is_none, keep_class, keep_defaults, module_begun, module_object, param_bound, param_name, param_of, param_value, params_bound, params_fit, system_fault, top_made, with_base, with_defaults, with_lite};
+ghost use Rattle.lx_run.specs.Classes.{all_have_defaults, are_params, as_system, bases_run, begun, class_defaults, class_kind, class_run, classes_run, default_run, defaults_of, defaults_run, description_run, is_none, is_system_base, is_system_class, keep_class, keep_defaults, module_begun, module_object, param_bound, param_name, param_of, param_value, params_bound, params_fit, top_made, with_base, with_defaults, with_lite};
 ghost use Rattle.lx_state.specs.declared.machine.ModuleKind.TheVariants as kinds;
 ghost use Rattle.lx_run.specs.Meant.{IsLowerClass, IsLowerOption, IsLowerParam, makes};
 
@@ -17,6 +18,7 @@ use lx_arena::Id;
 use lx_builtins::Arguments;
 use lx_builtins::arguments::{argument, bound_to};
 use lx_objects::modules::module_made;
+use lx_objects::systems::system_begun;
 use lx_pytree::PyNodes;
 use lx_state::machine::{Class, Machine, ModuleKind};
 use lx_state::values::Value;
@@ -187,14 +189,15 @@ pub(crate) fn module_begun(
 
 // ---- going through the classes
 
-// Only the last class may be a system, and systems are not built yet.
-fn system_fault(last: bool) -> Kind
-    ensures { result ≡ system_fault last }
+// Only the last class may be a system.
+fn as_system(machine: &Machine, line: u32, last: bool) -> Result<ModuleKind, Refusal>
+    ensures { Gives result machine.now (as_system line last machine.now) }
 {
+    let _machine = machine;
     if last {
-        Kind::NotYetBuilt
+        Ok(ModuleKind::Soc)
     } else {
-        Kind::WrongKind
+        Err(fault(line, Kind::WrongKind))
     }
 }
 
@@ -209,7 +212,6 @@ fn with_base(
 ) -> Result<ModuleKind, Refusal>
     ensures { Gives result machine.now (with_base last (base_of syntax.now.src base.now) so_far machine.now) }
 {
-    let _machine = machine;
     let name = syntax.text(base);
     if name == b"Module".as_slice() || name == b"AutoCSR".as_slice() {
         return Ok(so_far);
@@ -218,7 +220,7 @@ fn with_base(
         return Ok(with_lite(so_far));
     }
     if name == b"SoCCore".as_slice() {
-        return Err(fault(base.line, system_fault(last)));
+        return as_system(machine, base.line, last);
     }
     Err(unknown(alloc, base.line, name))
 }
@@ -461,7 +463,42 @@ fn top_made(
     }
 }
 
-/// Goes through the classes of a description in their order, and makes the last one's module.
+// Whether one of these bases makes a class a system.
+fn have_system(syntax: &Syntax, bases: &[Token]) -> bool
+    ensures { result ≡ list_any is_system_base (map (base_of syntax.now.src) bases.now) }
+{
+    for base in bases {
+        if syntax.text(base) == b"SoCCore".as_slice() {
+            return true;
+        }
+    }
+    false
+}
+
+// Whether the class at a place is a system.
+#[tactic(auto, using(crate::proofs::Making::class_there))]
+fn is_system_at(syntax: &Syntax, at: usize) -> bool
+    ensures { result ≡ is_system_class (slice_get (classes_of syntax.now) at) }
+{
+    match class_at(syntax, at) {
+        Some(class) => have_system(syntax, class.bases.as_slice()),
+        None => false,
+    }
+}
+
+// A system begins before anything is run.
+fn begin(machine: &mut Machine, alloc: Global, is_system: bool) -> Result<(), Refusal>
+    ensures { Gives result machine.new (begun is_system machine.old) }
+{
+    if is_system {
+        system_begun(machine, alloc)
+    } else {
+        Ok(())
+    }
+}
+
+/// Goes through the classes of a description in their order, and makes the last one's module. A system begins with the
+/// ports of its bus.
 #[tactic(auto, using(crate::proofs::Making::class_there, crate::proofs::Going::count_is), unfolding(crate::specs::Classes::description_run))]
 pub fn description_run(
     machine: &mut Machine,
@@ -474,8 +511,9 @@ pub fn description_run(
         classes: 64,
         nested: GREATEST_NESTED,
     };
-    classes_run(machine, alloc, syntax, depth)?;
     let at = syntax.class_count().saturating_sub(1);
+    begin(machine, alloc, is_system_at(syntax, at))?;
+    classes_run(machine, alloc, syntax, depth)?;
     match class_at(syntax, at) {
         Some(class) => top_made(machine, alloc, syntax, at, class),
         None => Err(fault(0, Kind::NoTop)),

@@ -5,4 +5,4 @@ mod inputs;
 pub mod laws;
 mod runner;
 
-pub use runner::Runner;
+pub use runner::{Runner, named};

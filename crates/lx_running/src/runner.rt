@@ -41,9 +41,10 @@ impl<'a> Model for Runner<'a> {
     ghost invariant = { λ r. IsRunner r.design.now r.names.words r.lowered };
 }
 
-// The names of a circuit without a fault, or its first fault.
+/// The names of a circuit without a fault; or its first fault: StorageDriven, TwoDrivers, MemoryClocks, CombLoop, NameTaken; or
+/// NotYetBuilt where two ports of memories have one `dat_r`.
 #[tactic(auto, using(crate::proofs::Runners::check_refused, crate::proofs::Runners::name_refused, crate::proofs::Runners::not_built, crate::proofs::Runners::named))]
-fn named(alloc: Global, design: &Design) -> Result<Names, Refusal>
+pub fn named(alloc: Global, design: &Design) -> Result<Names, Refusal>
     requires { Keeps design.now }
     ensures { IsNaming design.now result }
 {

@@ -47,6 +47,8 @@ leaf_of_what what.MultiReg = leaves.Specials
 leaf_of_what (what.Fsm k) = leaves.Modules
 leaf_of_what (what.Memory k) = leaves.Specials
 leaf_of_what (what.Port j) = leaves.Specials
+leaf_of_what (what.Manager k) = leaves.Modules
+leaf_of_what _ = leaves.Others
 
 abbrev pub leaf_of : Option Object → Leaves
 leaf_of None = leaves.Others

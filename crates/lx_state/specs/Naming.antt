@@ -18,7 +18,7 @@ use Rattle.lx_state.specs.Step.{Step, give, ◌>>=◌}
 -- ---- objects
 
 unfoldable pub object_made : What → ℕ → Option (List ℕ) → Step ℕ
-object_made what line given m = give (length m.objects) (record m { objects = m.objects ++ record { what = what; line = line; maker = m.frame.this; given = given; by_attribute = None; by_local = None } ∷ [] })
+object_made what line given m = give (length m.objects) (record m { objects = m.objects ++ record { what = what; line = line; maker = m.frame.this; given = given; by_attribute = None; by_local = None; home = None } ∷ [] })
 
 abbrev pub turned : What → Object → Object
 turned what o = record o { what = what }
@@ -36,6 +36,18 @@ abbrev pub named_by : Binding → List ℕ → Object → Object
 named_by binding.Nowhere name o = o
 named_by binding.Local name o = record o { by_local = first_name o.by_local name }
 named_by binding.Attribute name o = record o { by_attribute = first_name o.by_attribute name }
+
+-- the first module counts
+abbrev pub first_home : Option ℕ → ℕ → Option ℕ
+first_home (Some old) home = Some old
+first_home None home = Some home
+
+abbrev pub settled : ℕ → Object → Object
+settled home o = record o { home = first_home o.home home }
+
+-- an object is bound by an attribute of this module itself
+unfoldable pub settle_object : ℕ → ℕ → Step (Unit {0})
+settle_object home at m = give tt (record m { objects = changed m.objects at (settled home) })
 
 unfoldable pub name_object : Binding → List ℕ → ℕ → Step (Unit {0})
 name_object by name at m = give tt (record m { objects = changed m.objects at (named_by by name) })

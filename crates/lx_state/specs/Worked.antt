@@ -20,13 +20,13 @@ use Rattle.lx_state.specs.declared.machine.Object.{Object}
 use Rattle.lx_state.specs.declared.machine.What.TheVariants as what
 use Rattle.lx_state.specs.Frames.{hide, meaning, restore, set_local, set_param}
 use Rattle.lx_state.specs.Lists.{all_leaves, depth_of, list_made, sizes_of}
-use Rattle.lx_state.specs.Naming.{bind_name}
+use Rattle.lx_state.specs.Naming.{bind_name, settle_object}
 use Rattle.lx_state.specs.Step.{Step, Outcome, give, ◌>>=◌}
 use Rattle.lx_state.specs.Work.{spend}
 
 -- nothing was made
 abbrev pub start : Machine
-start = record { spent = 0; nodes = 0; classes = []; shaped = started [] []; owners = []; objects = []; modules = []; fsms = []; memories = []; memory_objects = []; words = 0; ports = []; texts = []; lists = []; dictionaries = []; made = []; fsm_stmts = []; domains = []; specials = record { comb = []; sync = [] }; frame = record { locals = []; this = None; class = 0 } }
+start = record { spent = 0; nodes = 0; classes = []; shaped = started [] []; owners = []; objects = []; modules = []; fsms = []; memories = []; memory_objects = []; words = 0; ports = []; registers = []; fields = []; constants = []; managers = []; sources = []; regions = []; interfaces = []; system = record { base = 0xf0000000; line = 0; regions = []; slaves = []; fixes = []; irqs = []; constants = [] }; texts = []; lists = []; dictionaries = []; made = []; fsm_stmts = []; domains = []; specials = record { fields = []; comb = []; sync = [] }; frame = record { locals = []; this = None; class = 0 } }
 
 -- ---- what is seen of an outcome
 
@@ -40,13 +40,16 @@ attribute_names m = map (λ o. o.by_attribute) m.objects
 abbrev pub local_names : Machine → List (Option (List ℕ))
 local_names m = map (λ o. o.by_local) m.objects
 
+abbrev pub homes : Machine → List (Option ℕ)
+homes m = map (λ o. o.home) m.objects
+
 abbrev pub spent : Machine → ℕ
 spent m = m.spent
 
 -- ---- machines
 
 abbrev pub object : Object
-object = record { what = what.Module 0; line = 1; maker = None; given = None; by_attribute = None; by_local = None }
+object = record { what = what.Module 0; line = 1; maker = None; given = None; by_attribute = None; by_local = None; home = None }
 
 abbrev pub items : List Value → ℕ → Items
 items values depth = record { values = values; depth = depth; leaves = leaves.Others; size = 0; named = binding.Nowhere }
@@ -79,10 +82,10 @@ locals m = m.frame.locals
 abbrev pub a_statement : Bool → Made
 a_statement in_state = record { form = form.Else 0 []; line = 1; size = 1; depth = 1; in_state = in_state }
 
--- a `ClockDomain`, two `MultiReg`s, a module, an FSM, a memory, a port, and `[]`; a statement, and one that stands in a state alone
+-- a `ClockDomain`, two `MultiReg`s, a module, an FSM, a memory, a port, an event manager, and `[]`; a statement, and one that stands in a state alone
 abbrev pub kinds : Machine
 kinds = record start {
-  objects = record object { what = what.ClockDomain (record { reset = true; bound = false }) } ∷ record object { what = what.MultiReg } ∷ record object { what = what.MultiReg } ∷ object ∷ record object { what = what.Fsm 0 } ∷ record object { what = what.Memory 0 } ∷ record object { what = what.Port 0 } ∷ [];
+  objects = record object { what = what.ClockDomain (record { reset = true; bound = false }) } ∷ record object { what = what.MultiReg } ∷ record object { what = what.MultiReg } ∷ object ∷ record object { what = what.Fsm 0 } ∷ record object { what = what.Memory 0 } ∷ record object { what = what.Port 0 } ∷ record object { what = what.Manager 0 } ∷ [];
   lists = record (items [] 1) { leaves = leaves.Nothing } ∷ [];
   made = a_statement false ∷ a_statement true ∷ [];
 }
@@ -96,6 +99,8 @@ pub record AreWorked : Type 0 where
   pub bound_twice : seen local_names ((bind_name binding.Local (codes "a") (value.Object 0) >>= λ _. bind_name binding.Local (codes "b") (value.Object 0)) nested) ≡ Ok (Some (codes "a") ∷ None ∷ None ∷ [])
   pub list_bound_twice : seen local_names ((bind_name binding.Local (codes "a") (value.List 0) >>= λ _. bind_name binding.Local (codes "b") (value.List 1)) nested) ≡ Ok (Some (codes "b_0") ∷ Some (codes "a_0") ∷ Some (codes "a_1") ∷ [])
   pub parameters_name_nothing : seen local_names (set_param 1 (codes "a") (value.Object 0) nested) ≡ Ok (None ∷ None ∷ None ∷ [])
+  -- the first module by an attribute of which an object was bound itself is its home
+  pub first_home : seen homes ((settle_object 2 0 >>= λ _. settle_object 3 0) nested) ≡ Ok (Some 2 ∷ None ∷ None ∷ [])
   -- a list within a list is a level more
   pub a_level_more : seen (λ m. depth_of m (value.List 2)) (list_made 1 (value.List 1 ∷ value.Int (pos 3) ∷ []) nested) ≡ Ok 3
   pub sixty_four_levels : seen spent (list_made 1 (value.List 1 ∷ []) deep) ≡ Ok 1
@@ -106,6 +111,7 @@ pub record AreWorked : Type 0 where
   pub another_kind : all_leaves kinds (value.Tuple 0 ∷ value.Object 0 ∷ []) ≡ leaves.ClockDomains
   pub two_kinds : all_leaves kinds (value.Object 3 ∷ value.Object 1 ∷ []) ≡ leaves.Others
   pub two_kinds_more : all_leaves kinds (value.Object 0 ∷ value.Object 1 ∷ []) ≡ leaves.Others
+  pub manager_beside_module : all_leaves kinds (value.Object 3 ∷ value.Object 7 ∷ []) ≡ leaves.Modules
   pub fsm_beside_module : all_leaves kinds (value.Object 3 ∷ value.Object 4 ∷ []) ≡ leaves.Modules
   -- one statement that stands in a state alone is enough
   pub plain_statements : all_leaves kinds (value.Made 0 ∷ value.Tuple 0 ∷ value.Made 0 ∷ []) ≡ leaves.Statements

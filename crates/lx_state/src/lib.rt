@@ -14,4 +14,4 @@ pub use machine::{
     Binding, Class, ClockDomain, DomainState, Form, Frame, Fsm, Items, Leaves, Machine, Made,
     MadeArm, Module, ModuleKind, Object, Ongoing, Owner, Pair, Specials, Submodule, SyncItem, What,
 };
-pub use values::{Builtin, Method, Value};
+pub use values::{Builtin, Hub, Method, Value};

@@ -47,6 +47,9 @@ fn leaf_of_what(what: What) -> Leaves
         What::MultiReg => Leaves::Specials,
         What::Fsm(_) => Leaves::Modules,
         What::Memory(_) | What::Port(_) => Leaves::Specials,
+        What::Manager(_) => Leaves::Modules,
+        What::Register(_) | What::Field(_) | What::Constant(_) | What::Source(_) => Leaves::Others,
+        What::Region(_) | What::Interface(_) => Leaves::Others,
     }
 }
 

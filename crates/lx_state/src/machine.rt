@@ -1,8 +1,8 @@
 //! The machine that holds what a running description has made.
 
 use crate::values::Value;
-use lx_description::FsmStmts;
-use lx_fhdl::{ExprId, Memory, Port, SigId, TargetId};
+use lx_description::{ConstDecl, ConstValue, FsmStmts, RegDecl, SlaveDecl, SourceKind};
+use lx_fhdl::{ExprId, Fix, Memory, Port, RegionWish, SigId, TargetId};
 use lx_names::Table;
 use lx_shaped::Shaped;
 use lx_text::{List, Word};
@@ -33,6 +33,21 @@ pub struct Machine {
     pub words: u32,
     /// The ports of all memories, in order of making.
     pub ports: List<PortState>,
+    /// The registers in order of making.
+    pub registers: List<RegisterState>,
+    /// What fields of registers were described by, in order of making.
+    pub fields: List<FieldState>,
+    /// The values of the constants for software that modules hold, in order of making.
+    pub constants: List<ConstValue>,
+    /// The event managers in order of making.
+    pub managers: List<ManagerState>,
+    /// The sources of events in order of making.
+    pub sources: List<SourceState>,
+    /// What regions were described by, in order of making.
+    pub regions: List<RegionState>,
+    /// The interfaces of the bus in order of making.
+    pub interfaces: List<InterfaceState>,
+    pub system: SystemState,
     pub texts: List<Word>,
     /// The items of lists, tuples and Arrays.
     pub lists: List<Items>,
@@ -49,7 +64,9 @@ pub struct Machine {
 /// The statements that stand for what takes part once it is made. They stand before those of all modules.
 #[derive(Drop)]
 pub struct Specials {
-    /// The combinatorial ones.
+    /// Those that drive the bits of a register from its fields. They stand before all others.
+    pub fields: List<usize>,
+    /// The other combinatorial ones.
     pub comb: List<usize>,
     /// The synchronous ones.
     pub sync: List<SyncItem>,
@@ -108,7 +125,7 @@ pub enum Leaves {
     Statements,
     /// Statements, some of which may stand in a state of an FSM alone.
     StateStatements,
-    /// Modules and FSMs alone.
+    /// Modules, FSMs and event managers alone.
     Modules,
     /// `ClockDomain`s alone.
     ClockDomains,
@@ -147,6 +164,8 @@ pub struct Object {
     pub by_attribute: Option<Word>,
     /// The name of its first binding to a local name.
     pub by_local: Option<Word>,
+    /// The module an attribute of which first bound it itself, and not within a list.
+    pub home: Option<usize>,
 }
 
 /// What an object is.
@@ -161,6 +180,20 @@ pub enum What {
     Memory(usize),
     /// A port of a memory, by its place among the ports.
     Port(usize),
+    /// A register, by its place among the registers.
+    Register(usize),
+    /// A `CSRField`, by its place among the fields.
+    Field(usize),
+    /// A `CSRConstant`, by its place among the constants.
+    Constant(usize),
+    /// An event manager, by its place among the managers.
+    Manager(usize),
+    /// A source of events, by its place among the sources.
+    Source(usize),
+    /// A `SoCRegion`, by its place among the regions.
+    Region(usize),
+    /// An interface of the bus, by its place among the interfaces.
+    Interface(usize),
 }
 
 /// A `ClockDomain`, which declares a domain when it is first bound to an attribute.
@@ -173,7 +206,8 @@ pub struct ClockDomain {
 }
 
 /// Whose a signal is: an object's own, or a part of one. An FSM's own is `state`, and a part of it is named by the state
-/// that it is `ongoing` of. A port of a memory has the parts `adr`, `dat_r`, `dat_w` and `we`.
+/// that it is `ongoing` of. A port of a memory has the parts `adr`, `dat_r`, `dat_w` and `we`. Registers, sources and event
+/// managers have their signals as parts; a manager's `enable` has no path, since hardware that is generated is nobody's.
 #[derive(Drop)]
 pub struct Owner {
     pub object: usize,
@@ -226,6 +260,100 @@ pub struct Writing {
     pub we: ExprId,
 }
 
+/// A register (`CSRStorage`, `CSRStatus`, `CSR`).
+#[derive(Drop)]
+pub struct RegisterState {
+    /// What it is; it has no name before it is described.
+    pub decl: RegDecl,
+    /// The expression that reads each of its signals, in their order.
+    pub reads: List<ExprId>,
+}
+
+/// A field of a register as it is described (`CSRField`).
+#[derive(Drop)]
+pub struct FieldState {
+    pub name: Word,
+    /// Its bits, 1 to 255.
+    pub size: u8,
+    /// Its lowest bit. Without it it follows the field before it.
+    pub offset: Option<u8>,
+    pub reset: i128,
+    /// The line of its call.
+    pub line: u32,
+}
+
+/// An event manager (`EventManager`) with the sources that it has so far.
+#[derive(Drop)]
+pub struct ManagerState {
+    /// Its place among the objects.
+    pub object: usize,
+    /// The place of the module by which it is added to others. It has nothing of its own.
+    pub module: usize,
+    /// The sources that are bound to it, in order of binding.
+    pub sources: List<usize>,
+    /// The source under each name that its attributes have.
+    pub names: Table<usize>,
+    pub irq: SigId,
+    /// The expression that reads `irq`.
+    pub read: ExprId,
+    /// The value of its register `enable`, whose bits are known once all sources are.
+    pub enable: SigId,
+}
+
+/// A source of events.
+#[derive(Drop)]
+pub struct SourceState {
+    /// Its place among the objects.
+    pub object: usize,
+    pub kind: SourceKind,
+    /// `trigger`, `status`, `pending`, `clear`.
+    pub signals: List<SigId>,
+    /// The expression that reads each of them.
+    pub reads: List<ExprId>,
+    /// Whether it is bound to an event manager.
+    pub bound: bool,
+}
+
+/// What a `SoCRegion` asks for.
+#[derive(Clone, Copy)]
+pub struct RegionState {
+    /// The address of its first byte, where it is stated.
+    pub origin: Option<u64>,
+    /// Its bytes.
+    pub size: u64,
+    pub cached: bool,
+}
+
+/// An interface of the bus (`wishbone.Interface`).
+#[derive(Drop)]
+pub struct InterfaceState {
+    /// `adr`, `dat_w`, `dat_r`, `sel`, `cyc`, `stb`, `we`, `ack`, `err`.
+    pub signals: List<SigId>,
+    /// The expression that reads each of them.
+    pub reads: List<ExprId>,
+    /// Whether it was handed to the bus, which gives its inputs from then on.
+    pub handed: bool,
+}
+
+/// What a system declares beside its modules.
+#[derive(Drop)]
+pub struct SystemState {
+    /// The address of its registers (`csr_base`).
+    pub base: u64,
+    /// The line of the last call of `super().__init__`; 0 without one.
+    pub line: u32,
+    /// The regions that it wishes for beside that of the registers, in order of the calls.
+    pub regions: List<RegionWish>,
+    /// What answers at each of them.
+    pub slaves: List<SlaveDecl>,
+    /// The numbers that it wishes for its banks (`csr.add`).
+    pub fixes: List<Fix>,
+    /// The interrupts that it wishes for (`irq.add`).
+    pub irqs: List<Fix>,
+    /// What `add_constant` added.
+    pub constants: List<ConstDecl>,
+}
+
 /// A module and its fragment.
 #[derive(Drop)]
 pub struct Module {
@@ -233,6 +361,8 @@ pub struct Module {
     pub class: usize,
     pub kind: ModuleKind,
     pub attributes: Table<Value>,
+    /// The objects that its attributes bound themselves, in the order of the bindings.
+    pub bound: List<usize>,
     /// Its combinatorial statements.
     pub comb: List<usize>,
     /// Its synchronous statements.

@@ -3,7 +3,7 @@
 ghost use Rattle.std.specs.Prelude.{◌≡◌, ◌∷◌, IfOk, Ok, Some, slice_get};
 ghost use Rattle.lx_state.specs.Step.{Gives};
 ghost use Rattle.lx_state.specs.Changes.{changed};
-ghost use Rattle.lx_state.specs.Naming.{bind_items, bind_list, bind_name, bind_within, first_name, is_later, item_name, mark, marked, name_object, name_some, named_by, object_made, own_signal, signal_object, turn_object, turned, unnamed};
+ghost use Rattle.lx_state.specs.Naming.{bind_items, bind_list, bind_name, bind_within, first_home, first_name, is_later, item_name, mark, marked, name_object, name_some, named_by, object_made, own_signal, settle_object, settled, signal_object, turn_object, turned, unnamed};
 
 use crate::lists::copied;
 use crate::machine::{Binding, Items, Leaves, Machine, Object, What};
@@ -59,6 +59,7 @@ fn named_by(object: Object, binding: Binding, name: Word) -> Object
         given,
         by_attribute,
         by_local,
+        home,
     } = object;
     match binding {
         Binding::Nowhere => Object {
@@ -68,6 +69,7 @@ fn named_by(object: Object, binding: Binding, name: Word) -> Object
             given,
             by_attribute,
             by_local,
+            home,
         },
         Binding::Local => Object {
             what,
@@ -76,6 +78,7 @@ fn named_by(object: Object, binding: Binding, name: Word) -> Object
             given,
             by_attribute,
             by_local: first_name(by_local, name),
+            home,
         },
         Binding::Attribute => Object {
             what,
@@ -84,6 +87,7 @@ fn named_by(object: Object, binding: Binding, name: Word) -> Object
             given,
             by_attribute: first_name(by_attribute, name),
             by_local,
+            home,
         },
     }
 }
@@ -97,6 +101,7 @@ fn no_object() -> Object {
         given: None,
         by_attribute: None,
         by_local: None,
+        home: None,
     }
 }
 
@@ -120,6 +125,28 @@ fn name_there(objects: &mut List<Object>, at: usize, binding: Binding, name: Wor
     if at < objects.len() {
         let object = objects.replace(at, no_object());
         objects.replace(at, named_by(object, binding, name));
+    }
+}
+
+// The object at a place stands in a module, unless it stands in one already.
+#[tactic(auto, using(crate::proofs::Changes::changed_there, crate::proofs::Changes::set_twice, crate::proofs::Changes::not_changed))]
+fn settle_there(objects: &mut List<Object>, at: usize, home: usize)
+    ensures { objects.new ≡ changed objects.old at (settled home) }
+{
+    if at < objects.len() {
+        let mut object = objects.replace(at, no_object());
+        object.home = first_home(object.home, home);
+        objects.replace(at, object);
+    }
+}
+
+// The first home of two.
+fn first_home(old: Option<usize>, home: usize) -> Option<usize>
+    ensures { result ≡ first_home old home }
+{
+    match old {
+        Some(old) => Some(old),
+        None => Some(home),
     }
 }
 
@@ -184,6 +211,7 @@ impl Machine {
             given,
             by_attribute: None,
             by_local: None,
+            home: None,
         })?;
         Ok(place)
     }
@@ -194,6 +222,14 @@ impl Machine {
         ensures { turn_object what at self.old ≡ Ok (tt, self.new) }
     {
         turn_there(&mut self.objects, at, what);
+    }
+
+    /// An object is bound by an attribute of a module itself; its first such module is its home.
+    #[tactic(auto, unfolding(crate::specs::Naming::settle_object))]
+    pub fn settle_object(&mut self, home: usize, at: usize)
+        ensures { settle_object home at self.old ≡ Ok (tt, self.new) }
+    {
+        settle_there(&mut self.objects, at, home);
     }
 
     // An object is bound to a name.

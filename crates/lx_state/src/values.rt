@@ -25,6 +25,10 @@ pub enum Value {
     Method(Method),
     /// `super()` in the `__init__` of this module.
     Super(usize),
+    /// `fields` of a register, by its place among the registers.
+    Fields(usize),
+    /// `bus`, `csr` or `irq` of a system.
+    Hub(Hub),
 }
 
 /// A method that is bound to its object.
@@ -44,6 +48,30 @@ pub enum Method {
     Ongoing(usize),
     /// `get_port` of a memory.
     GetPort(usize),
+    /// `finalize` of an event manager, which has no effect.
+    Finalize,
+    /// `Interface` of `wishbone`.
+    Interface,
+    /// `add_ram` of a system.
+    AddRam,
+    /// `add_rom` of a system.
+    AddRom,
+    /// `add_constant` of a system.
+    AddConstant,
+    /// `bus.add_slave` of a system.
+    AddSlave,
+    /// `csr.add` of a system.
+    AddBank,
+    /// `irq.add` of a system.
+    AddInterrupt,
+}
+
+/// What a system is asked by for places.
+#[derive(Clone, Copy)]
+pub enum Hub {
+    Bus,
+    Csr,
+    Irq,
 }
 
 /// The names that every description may use ("Built-in names" of the description's language).

@@ -1,5 +1,5 @@
 -- From the same files a command goes on in one way.
-use Rattle.std.proofs.Common.{◌≡◌, ℕ, true, false, List, [], ◌∷◌, Result, Ok, Err, refl, sym, ◌∙◌, subst, map, inl, inr, ◌⊎◌}
+use Rattle.std.proofs.Common.{◌≡◌, ℕ, Bool, true, false, List, [], ◌∷◌, Result, Ok, Err, refl, sym, ◌∙◌, subst, map, inl, inr, ◌⊎◌}
 use Rattle.lx_text.specs.Limits.{max_bytes}
 use Rattle.lx_text.specs.declared.faults.Fault.{Fault}
 use Rattle.lx_token.specs.declared.tokens.Token.{Token}
@@ -15,12 +15,13 @@ use Rattle.lx_command.specs.Commands.{Build, Map, Sim, Poke, Gen}
 use Rattle.lx_command.specs.Judging.{HasTree, HasTextFault}
 use Rattle.lx_command.specs.Lines.{not_built}
 use Rattle.lx_translate.specs.Translation.{HasFault}
-use Rattle.lx_top.specs.Meaning.{Says, IsBuilt, IsRefusedFor, Meaning, Built, Simulated, Answered}
+use Rattle.lx_top.specs.Meaning.{Says, IsBuilt, IsModuleRefused, IsRefusedFor, IsListedAs, IsUnlistedAs, Meaning, Built, Listing, Listed, Simulated, Answered}
 use Rattle.lx_command.specs.Next.{Next, Wants, Then, SameNext}
 use Rattle.lx_top.specs.Modules.{is_module}
 use Rattle.lx_running.proofs.Alike.{no_trace_fault}
 use Rattle.lx_top.specs.Table.{IsOneAnswerLaw, WantsTrace}
 use Rattle.lx_top.proofs.Flat.{flat_alike, module_alike}
+use Rattle.lx_top.proofs.Systems.{no_place_fault, plain_top, refused_module}
 
 -- a text has one tree
 same_tree : (bytes : List ℕ) (t u : Tree) → HasTree bytes t → HasTree bytes u → t ≡ u
@@ -43,7 +44,7 @@ says_one bytes r s p q =
     cc
 
 -- a description that is built isn't refused
-not_refused : (d : Description) (f : Fault) → IsBuilt d → IsRefusedFor d f → ⊥
+not_refused : (d : Description) (f : Fault) → IsBuilt d → IsModuleRefused d f → ⊥
 not_refused d f b r = by r.2
   where
     by : ((is_module r.0 ≡ false) × (f ≡ not_built)) ⊎ ((is_module r.0 ≡ true) × HasFault r.0.design f) → ⊥
@@ -57,7 +58,7 @@ no_fault bytes x f m (inr (inl e)) = let q = says_one bytes (Ok x) (Err f) m.0 e
 no_fault bytes x f m (inr (inr e)) =
     let q = says_one bytes (Ok x) (Ok e.0) m.0 e.1 in
     let same : e.0 ≡ x = cc in
-    not_refused x f m.1 (subst (λ (d : Description). IsRefusedFor d f) same e.2)
+    not_refused x f m.1 (refused_module x f (plain_top x m.1.0 m.1.1 m.1.2) (subst (λ (d : Description). IsRefusedFor d f) same e.2))
 
 -- where a meaning is no fault and goes on in one way, so does the chain
 same_then : {A : Type 0} (file : List ℕ) (M : Result A Fault → Type 0) (on : A → Next → Type 0) (n m : Next) → ((x : A) (f : Fault) → M (Ok x) → M (Err f) → ⊥)
@@ -69,6 +70,24 @@ same_then file M on n m one same (inr p) (inr q) = same p.0 q.0 p.1 q.1 p.2 q.2
 
 both_built : (x y : Description) (n m : Next) → Built x n → Built y m → SameNext n m
 both_built x y n m p q = rw (p.2, q.2) tt
+
+-- ---- listings
+
+both_listed : (x y : Description) (n m : Next) → Listed x n → Listed y m → SameNext n m
+both_listed x y n m p q = rw (p.2, q.2) tt
+
+-- a description that is listed isn't refused
+listed_or_not : (b : Bool) (d : Description) (f : Fault) → IsListedAs b d → IsUnlistedAs b d f → ⊥
+listed_or_not true d f h e = no_place_fault d f h e
+listed_or_not false d f h e = not_refused d f h e
+
+no_unlisted : (bytes : List ℕ) (x : Description) (f : Fault) → Listing bytes (Ok x) → Listing bytes (Err f) → ⊥
+no_unlisted bytes x f m (inl e) = no_text_fault bytes m.0.tree f m.0.has e
+no_unlisted bytes x f m (inr (inl e)) = let q = says_one bytes (Ok x) (Err f) m.0 e in cc
+no_unlisted bytes x f m (inr (inr e)) =
+    let q = says_one bytes (Ok x) (Ok e.0) m.0 e.1 in
+    let same : e.0 ≡ x = cc in
+    listed_or_not x.soc x f m.1 (subst (λ (d : Description). IsUnlistedAs d.soc d f) same e.2)
 
 -- ---- traces
 
@@ -92,8 +111,9 @@ pub one_answer : IsOneAnswerLaw
 one_answer (Build source) [] n m p q = rw (p, q) (refl, refl)
 one_answer (Build source) (bytes ∷ []) n m p q = same_then source (Meaning bytes) Built n m (no_fault bytes) (λ x y _ _ a b. both_built x y n m a b) p q
 one_answer (Build source) (bytes ∷ more ∷ rest) n m p q = absurd p
-one_answer (Map source) [] n m p q = rw (p, q) refl
-one_answer (Map source) (bytes ∷ had) n m p q = absurd p
+one_answer (Map source) [] n m p q = rw (p, q) (refl, refl)
+one_answer (Map source) (bytes ∷ []) n m p q = same_then source (Listing bytes) Listed n m (no_unlisted bytes) (λ x y _ _ a b. both_listed x y n m a b) p q
+one_answer (Map source) (bytes ∷ more ∷ rest) n m p q = absurd p
 one_answer (Sim source trace) [] n m p q = rw (p, q) (refl, refl)
 one_answer (Sim source trace) (bytes ∷ []) n m p q = same_then source (Meaning bytes) (WantsTrace trace) n m (no_fault bytes) (λ x y _ _ a b. both_want trace n m a b) p q
 one_answer (Sim source trace) (lines ∷ bytes ∷ []) n m p q = both_run trace lines bytes n m p.0 q.0 p.1 q.1 p.2 q.2

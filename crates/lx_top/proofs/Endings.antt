@@ -11,14 +11,17 @@ use Rattle.lx_command.specs.declared.fetching.Stop.TheVariants as stop
 use Rattle.lx_command.specs.declared.status.Status.{Status}
 use Rattle.lx_command.specs.declared.status.Status.TheVariants as status
 use Rattle.lx_command.specs.declared.texts.Texts.{Texts}
-use Rattle.lx_command.specs.Commands.{Asked, Build, Map, Poke, Gen}
+use Rattle.lx_command.specs.Commands.{Asked, Build, Poke, Gen}
 use Rattle.lx_command.specs.Delivery.{Delivers}
 use Rattle.lx_command.specs.Fetching.{Fetched, IsNotBuilt, IsReport}
-use Rattle.lx_command.specs.Lines.{build_files, summary_text, no_memory_line, not_built}
+use Rattle.lx_command.specs.Lines.{summary_text, no_memory_line, not_built}
 use Rattle.lx_command.specs.Next.{Next, Wants, Refuses, Gives, Then}
 use Rattle.lx_command.specs.World.{World, Has, LacksFile, IsLongFile, IsUntouched, Tells}
 use Rattle.lx_description.specs.declared.description.Description.{Description}
 use Rattle.lx_translate.specs.Translation.{Translates}
+use Rattle.lx_soc.specs.Surveyed.{IsPlain}
+use Rattle.lx_soc.specs.declared.system.System.{System}
+use Rattle.lx_top.specs.Files.{build_files}
 use Rattle.lx_top.specs.Meaning.{Meaning, Built}
 use Rattle.lx_top.specs.Table.{Step}
 use Rattle.lx_top.specs.Outcome.{Comes, EndsBy}
@@ -100,8 +103,9 @@ described bytes e (Ok t) m b = (m.described, means bytes e m b.faultless, (t.fil
 described bytes e (Err (refusal.Fault f)) m b = circuit_fault bytes e f m b
 described bytes e (Err refusal.NoMemory) m b = tt
 
-pub built_from : (e : Description) (made : List ℕ) (t : Texts) → Translates e.design (Ok made) → t.files ≡ build_files made → t.text ≡ summary_text e.top → Builds e (Ok t)
-built_from e made t is same said = record { faultless = is.0; written = made; is = is.1; files = same; text = said }
+pub built_from : (e : Description) (made : List ℕ) (s : System) (t : Texts) → Translates e.design (Ok made) → IsPlain e.design e.top s → t.files ≡ build_files made s.map s.placement s.constants → t.text ≡ summary_text e.top
+    → Builds e (Ok t)
+built_from e made s t is plain same said = record { faultless = is.0; written = made; is = is.1; files = same ∙ rw (plain.map, plain.placement, plain.constants) refl; text = said }
 
 pub not_translated : (e : Description) (r : Refusal) → Translates e.design (Err r) → Builds e (Err r)
 not_translated e (refusal.Fault f) is = is
@@ -113,9 +117,6 @@ unbuilt told c word before now (stop.Read _) step is = absurd is
 unbuilt told c word before now (stop.Fault file f) step is =
     inl (record { had = []; reached = tt; step = subst (λ (w : List ℕ). Step c [] (Refuses w f)) (sym is.0) (subst (λ (g : Fault). Step c [] (Refuses word g)) (sym is.1) step) })
 unbuilt told c word before now stop.NoMemory step is = absurd is
-
-pub makes_map : (told : Option (List Pair)) (source : List ℕ) (before now : ℕ) (s : Stop) → IsNotBuilt (codes "map") s → Makes (Map source) told before now (Err s)
-makes_map told source before now s is = unbuilt told (Map source) (codes "map") before now s refl is
 
 pub makes_poke : (told : Option (List Pair)) (source script : List ℕ) (before now : ℕ) (s : Stop) → IsNotBuilt (codes "poke") s → Makes (Poke source script) told before now (Err s)
 makes_poke told source script before now s is = unbuilt told (Poke source script) (codes "poke") before now s refl is

@@ -15,14 +15,14 @@ use Rattle.lx_fhdl.specs.declared.design.Memory.{Memory}
 use Rattle.lx_fhdl.specs.declared.design.Port.{Port}
 use Rattle.lx_fhdl.specs.declared.design.Signal.{Signal}
 use Rattle.lx_fhdl.specs.declared.exprs.SigId.{SigId}
-use Rattle.std.specs.List.{list_all}
 use Rattle.lx_description.specs.declared.fsms.FsmDecl.{FsmDecl}
 use Rattle.lx_description.specs.Instance.{and_design, system}
 use Rattle.lx_description.specs.PlainModule.{is_nothing}
 use Rattle.lx_description.specs.declared.description.Description.{Description}
 use Rattle.lx_fsm.specs.Flattened.{Flattens, IsFlat, IsWithout, fsm_faults}
 use Rattle.lx_fsm_kept.specs.Stand.{fsms_stand}
-use Rattle.lx_elab.specs.Elaboration.{after, built, checked, elaborated, kept, stood, untested}
+use Rattle.lx_parts_kept.specs.Parts.{parts_keep}
+use Rattle.lx_elab.specs.Elaboration.{after, built, checked, elaborated, kept, parted, stood, untested}
 use Rattle.lx_elab.specs.Fsms.{unless}
 use Rattle.lx_syntax.specs.Ast as ast
 use Rattle.lx_translate.specs.Translation.{AreAlike}
@@ -43,8 +43,18 @@ judged (Ok x) d e = by (fsm_faults x) refl e
     by [] p q = stands p (fsms_stand x) q
     by (f ∷ fs) p q = absurd cc
 
+unparted : (r : Result Description Fault) (d : Description) → after parted r ≡ Ok d → r ≡ Ok d
+unparted (Err f) d e = absurd cc
+unparted (Ok x) d e = by (parts_keep x) e
+  where
+    by : (b : Bool) → built b x ≡ Ok d → built true x ≡ Ok d
+    by true g = g
+    by false g = absurd cc
+
 pub no_fsm_faults : (classes : List ast.Class) (d : Description) → elaborated classes ≡ Ok d → fsm_faults d ≡ []
-no_fsm_faults classes d e = judged (after kept (untested classes)) d e
+no_fsm_faults classes d e =
+    let r = after kept (untested classes) in
+    judged r d (unparted (after stood (after checked r)) d e)
 
 -- ---- it is had where they have none
 
@@ -103,18 +113,18 @@ flats_alike d a b p q =
 pub flat_alike : (d a b : Description) → IsWithout d a → IsWithout d b → AreAlike a.design b.design
 flat_alike d a b p q = flats_alike d a.design b.design p.flat q.flat
 
--- whether one is a module hangs on what they have alike
-abbrev module_of : Description → List Signal → Bool
-module_of d ss = (not d.soc && (is_nothing {T = FsmDecl} [] && is_nothing d.slaves)) && list_all (λ (s : Signal). not (is_nothing s.path)) ss
+-- whether one is a module hangs on nothing that FSMs change
+abbrev module_of : Description → Bool
+module_of d = not d.soc && (is_nothing {T = FsmDecl} [] && is_nothing d.slaves)
 
-module_is : (d e : Description) → IsWithout d e → is_module e ≡ module_of d e.design.signals
+module_is : (d e : Description) → IsWithout d e → is_module e ≡ module_of d
 module_is d e w = ap is_module w.rest
 
 pub module_alike : (d a b : Description) → IsWithout d a → IsWithout d b → is_module a ≡ is_module b
-module_alike d a b p q = module_is d a p ∙ ap (λ (ss : List Signal). module_of d ss) (flat_alike d a b p q).signals ∙ sym (module_is d b q)
+module_alike d a b p q = module_is d a p ∙ sym (module_is d b q)
 
 -- ---- rows
 
 pub module_rows : AreBuilt
 unfolding and_design system
-module_rows = record { circuit = refl; memory = refl; system = refl; slave = refl; no_path = refl }
+module_rows = record { circuit = refl; memory = refl; system = refl; slave = refl; generated = refl }

@@ -3,6 +3,8 @@ pub mod Giving
 pub mod Complete
 pub mod Endings
 pub mod Flat
+pub mod Listings
 pub mod OneText
 pub mod Reading
 pub mod Simulating
+pub mod Systems

@@ -1,5 +1,5 @@
 -- What making the answers of a trace does, part by part.
-use Rattle.std.proofs.Common.{◌≡◌, ℕ, ◌≤◌, List, [], ◌∷◌, Option, Result, Ok, Err, length, refl, sym, subst, arith, inl, inr, ◌⊎◌}
+use Rattle.std.proofs.Common.{◌≡◌, ℕ, ◌≤◌, List, [], ◌∷◌, Option, Result, Ok, Err, length, refl, sym, subst, inl, inr, ◌⊎◌}
 use Rattle.lx_text.specs.Limits.{max_bytes}
 use Rattle.lx_text.specs.declared.faults.Fault.{Fault}
 use Rattle.lx_outside.specs.declared.calls.Pair.{Pair}
@@ -16,6 +16,7 @@ use Rattle.lx_command.specs.Fetching.{Fetched}
 use Rattle.lx_command.specs.Lines.{too_long}
 use Rattle.lx_command.specs.Next.{Next, Wants, Refuses, Gives}
 use Rattle.lx_command.specs.World.{Has, LacksFile, IsLongFile}
+use Rattle.lx_command.proofs.LineLemmas.{rose_later}
 use Rattle.lx_top.specs.Meaning.{Meaning}
 use Rattle.lx_top.specs.Making.{Ends, EndsLater, IsModuleOf, Loading, Makes, Runs, RunsBytes, RunsCircuit, RunsFile, RunsTrace}
 use Rattle.lx_top.specs.Outcome.{Comes}
@@ -34,13 +35,9 @@ ends_as p q told before now (Err (stop.Fault file x)) f (inl h) = inl (f (Refuse
 ends_as p q told before now (Err (stop.Fault file x)) f (inr h) = inr (h.0, f (Wants file.now h.0) h.1, h.2, h.3)
 ends_as p q told before now (Err stop.NoMemory) f h = tt
 
--- a count that rose from a later one rose
-rose_from : (before mid now : ℕ) → before ≤ mid → Rose mid now → Rose before now
-rose_from before mid now l rose = omega arith
-
 ends_from : (p : Next → Type 0) (told : Option (List Pair)) (before mid now : ℕ) (r : Result Texts Stop) → before ≤ mid → EndsLater p told mid now r → EndsLater p told before now r
 ends_from p told before mid now (Ok t) l h = h
-ends_from p told before mid now (Err (stop.Read name)) l h = (h.0, h.1, elim h.2 [ inl rose ↦ inl (rose_from before mid now l rose) | inr lacks ↦ inr lacks ])
+ends_from p told before mid now (Err (stop.Read name)) l h = (h.0, h.1, elim h.2 [ inl rose ↦ inl (rose_later before mid now l rose) | inr lacks ↦ inr lacks ])
 ends_from p told before mid now (Err (stop.Fault file x)) l h = h
 ends_from p told before mid now (Err stop.NoMemory) l h = tt
 

@@ -1,5 +1,5 @@
 -- What making the texts of a command answers.
-use Rattle.std.specs.Prelude.{◌≡◌, ℕ, ◌≤◌, true, List, Option, Result, Ok, Err, length, ◌⊎◌}
+use Rattle.std.specs.Prelude.{◌≡◌, ℕ, ◌≤◌, Bool, true, List, Option, Result, Ok, Err, length, ◌⊎◌}
 use Rattle.lx_outside.specs.declared.calls.Pair.{Pair}
 use Rattle.lx_outside.specs.Calls.{Rose}
 use Rattle.lx_text.specs.Limits.{max_bytes}
@@ -15,10 +15,11 @@ use Rattle.lx_command.specs.declared.fetching.Stop.{Stop}
 use Rattle.lx_command.specs.declared.fetching.Stop.TheVariants as stop
 use Rattle.lx_command.specs.declared.texts.Texts.{Texts}
 use Rattle.lx_command.specs.Commands.{Asked}
-use Rattle.lx_command.specs.Lines.{build_files, summary_text, too_long}
+use Rattle.lx_command.specs.Lines.{summary_text, too_long}
 use Rattle.lx_command.specs.Next.{Next, Wants, Refuses, Gives, Then}
 use Rattle.lx_command.specs.World.{Has, LacksFile, IsLongFile}
-use Rattle.lx_top.specs.Meaning.{Answered, Built, IsRefusedFor, Meaning, Says, Simulated}
+use Rattle.lx_top.specs.Files.{module_files}
+use Rattle.lx_top.specs.Meaning.{Answered, Built, IsListedAs, IsModuleRefused, IsRefusedFor, IsSystemRefused, IsUnlistedAs, Listed, ListedAs, Listing, Meaning, Says, Simulated}
 use Rattle.lx_top.specs.Modules.{is_module}
 use Rattle.lx_top.specs.Outcome.{Comes}
 
@@ -28,11 +29,22 @@ Flattened d (Ok e) = IsWithout d e
 Flattened d (Err (refusal.Fault f)) = ⊥
 Flattened d (Err refusal.NoMemory) = Unit {0}
 
--- What making a description a module answers: the module, or that it is more.
+-- What making a top that is no system a module answers: the module, or that it is more.
 abbrev pub Modules : Description → Result Description Refusal → Type 0
 Modules d (Ok e) = IsWithout d e × (is_module e ≡ true)
-Modules d (Err (refusal.Fault f)) = IsRefusedFor d f
+Modules d (Err (refusal.Fault f)) = IsModuleRefused d f
 Modules d (Err refusal.NoMemory) = Unit {0}
+
+-- What refusing a system answers: its first fault, or that it isn't built yet.
+abbrev pub RefusesSystem : Description → Refusal → Type 0
+RefusesSystem d (refusal.Fault f) = IsSystemRefused d f
+RefusesSystem d refusal.NoMemory = Unit {0}
+
+-- What making any description a module answers.
+abbrev pub Judges : Description → Result Description Refusal → Type 0
+Judges d (Ok e) = IsWithout d e × (is_module e ≡ true)
+Judges d (Err (refusal.Fault f)) = IsRefusedFor d f
+Judges d (Err refusal.NoMemory) = Unit {0}
 
 -- the bytes describe this module
 pub record IsModuleOf (bytes : List ℕ) (e : Description) : Type 0 where
@@ -54,7 +66,7 @@ pub record AreTextsOf (e : Description) (t : Texts) : Type 0 where
   pub faultless : IsFaultless e.design
   pub written : List ℕ
   pub is : IsTextOf e.design written
-  pub files : t.files ≡ build_files written
+  pub files : t.files ≡ module_files written
   pub text : t.text ≡ summary_text e.top
 
 -- What making the texts of a module answers.
@@ -119,3 +131,21 @@ RunsTrace told trace d n = Loading told trace (λ lines. Then trace (Simulated d
 -- the same of its bytes
 abbrev pub RunsBytes : Option (List Pair) → List ℕ → List ℕ → List ℕ → Next → Type 0
 RunsBytes told source trace bytes n = Then source (Meaning bytes) (RunsTrace told trace) n
+
+-- ---- map
+
+-- What listing a description answers, by whether it is a system.
+abbrev pub Lists : Bool → Description → Result (List ℕ) Refusal → Type 0
+Lists b d (Ok text) = IsListedAs b d × ListedAs b d text
+Lists b d (Err (refusal.Fault f)) = IsUnlistedAs b d f
+Lists b d (Err refusal.NoMemory) = Unit {0}
+
+-- What listing the bytes of a description answers.
+abbrev pub ListsBytes : List ℕ → Result (List ℕ) Refusal → Type 0
+ListsBytes bytes (Ok text) = (d : Description) × Listing bytes (Ok d) × ListedAs d.soc d text
+ListsBytes bytes (Err (refusal.Fault f)) = Listing bytes (Err f)
+ListsBytes bytes (Err refusal.NoMemory) = Unit {0}
+
+-- What listing the file of this name answers.
+abbrev pub ListsFile : List ℕ → List ℕ → Result Texts Stop → Type 0
+ListsFile name bytes r = Ends (Then name (Listing bytes) Listed) r

@@ -1,19 +1,16 @@
 -- Which descriptions are built: circuits, with memories, and no systems.
 use Rattle.std.specs.Prelude.{◌≡◌, Bool, [], ◌∷◌, true, false, ◌&&◌, not, codes, Some, None}
-use Rattle.std.specs.List.{list_all}
 use Rattle.lx_fhdl.specs.Instance.{the_signal}
 use Rattle.lx_fhdl.specs.declared.design.Memory.{Memory}
 use Rattle.lx_fhdl.specs.declared.design.Port.{Port}
 use Rattle.lx_fhdl.specs.declared.design.PortMode.TheVariants as mode
-use Rattle.lx_fhdl.specs.declared.design.Signal.{Signal}
 use Rattle.lx_description.specs.Instance.{and_description, and_design, signal_of, slave_of, system}
 use Rattle.lx_description.specs.PlainModule.{is_nothing}
 use Rattle.lx_description.specs.declared.description.Description.{Description}
 
--- No system: no FSMs and no slaves; and each signal has a path.
+-- No system: no FSMs and no slaves.
 abbrev pub is_module : Description → Bool
-is_module d =
-    (not d.soc && (is_nothing d.fsms && is_nothing d.slaves)) && list_all (λ (s : Signal). not (is_nothing s.path)) d.design.signals
+is_module d = not d.soc && (is_nothing d.fsms && is_nothing d.slaves)
 
 -- ---- worked by hand
 
@@ -31,4 +28,4 @@ pub record AreBuilt : Type 0 where
   pub system : is_module system ≡ false
   pub slave : is_module (record and_description { slaves = slave_of (codes "ram") ∷ [] }) ≡ false
   -- a signal of generated hardware
-  pub no_path : is_module (record and_description { design = record and_design { signals = signal_of [] 1 false ∷ [] } }) ≡ false
+  pub generated : is_module (record and_description { design = record and_design { signals = signal_of [] 1 false ∷ [] } }) ≡ true

@@ -1,10 +1,10 @@
 -- The table of commands.
 use Rattle.std.specs.Prelude.{◌≡◌, ℕ, List, [], ◌∷◌, Ok}
 use Rattle.lx_text.specs.Limits.{max_bytes}
-use Rattle.lx_command.specs.Commands.{Asked, Build, Sim, command_word}
+use Rattle.lx_command.specs.Commands.{Asked, Build, Map, Sim, command_word}
 use Rattle.lx_command.specs.Lines.{not_built}
 use Rattle.lx_description.specs.declared.description.Description.{Description}
-use Rattle.lx_top.specs.Meaning.{Meaning, Built, Simulated, Answered}
+use Rattle.lx_top.specs.Meaning.{Meaning, Built, Listing, Listed, Simulated, Answered}
 use Rattle.lx_outside.specs.declared.calls.Pair.{Pair}
 use Rattle.lx_command.specs.Next.{Next, Wants, Refuses, Gives, Then, SameNext}
 
@@ -16,6 +16,8 @@ WantsTrace trace d n = n ≡ Wants trace max_bytes
 abbrev pub Step : Asked → List (List ℕ) → Next → Type 0
 Step (Build source) [] n = n ≡ Wants source max_bytes
 Step (Build source) (bytes ∷ []) n = Then source (Meaning bytes) Built n
+Step (Map source) [] n = n ≡ Wants source max_bytes
+Step (Map source) (bytes ∷ []) n = Then source (Listing bytes) Listed n
 Step (Sim source trace) [] n = n ≡ Wants source max_bytes
 Step (Sim source trace) (bytes ∷ []) n = Then source (Meaning bytes) (WantsTrace trace) n
 Step (Sim source trace) (lines ∷ bytes ∷ []) n = (d : Description) × Meaning bytes (Ok d) × Then trace (Simulated d lines) Answered n

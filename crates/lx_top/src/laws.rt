@@ -2,6 +2,7 @@
 
 ghost use Rattle.lx_top.specs.Completeness.{IsCompletenessLaw, IsGivingLaw};
 ghost use Rattle.lx_top.specs.Modules.{AreBuilt};
+ghost use Rattle.lx_top.specs.Worked.{AreWorked};
 ghost use Rattle.lx_top.specs.Table.{IsOneAnswerLaw, IsOneTextLaw};
 
 /// Where the words are a command that comes to no fault and lacks no file, and no call failed, a run is done or out of
@@ -23,6 +24,11 @@ pub fn one_text_law()
 /// A command that comes to give, over files that are told, comes to no fault, and lacks no file.
 pub fn giving_law()
     ensures { IsGivingLaw }
+{}
+
+/// What the files of a circuit without a bus tell, worked by hand.
+pub fn files_are_worked()
+    ensures { AreWorked }
 {}
 
 /// Which descriptions are built, worked by hand.

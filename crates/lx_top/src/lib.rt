@@ -2,7 +2,9 @@
 #![tactic(auto)]
 
 pub mod entry;
+mod files;
 pub mod laws;
+mod listing;
 pub mod making;
 pub mod modules;
 pub mod run;

@@ -3,28 +3,32 @@
 ghost use Rattle.std.specs.Prelude.{◌≡◌, ◌≤◌, ℕ, List, [], length};
 ghost use Rattle.lx_text.specs.declared.faults.Fault.{Fault};
 ghost use Rattle.lx_fhdl.specs.Keeping.{Keeps};
+ghost use Rattle.lx_description.specs.Keeping.{KeepsDescription};
 ghost use Rattle.lx_fsm.specs.Flattened.{CanFlatten, fsm_faults};
 ghost use Rattle.lx_command.specs.Commands.{Build, Sim, asked_of};
 ghost use Rattle.lx_command.specs.Next.{Refuses};
-ghost use Rattle.lx_top.specs.Making.{Builds, Describes, DescribesFile, Ends, EndsLater, Flattened, Makes, Modules, Reads, Runs, RunsBytes, RunsCircuit, RunsFile};
+ghost use Rattle.lx_top.specs.Making.{Builds, Describes, DescribesFile, Ends, EndsLater, Flattened, Judges, Makes, Modules, Reads, RefusesSystem, Runs, RunsBytes, RunsCircuit, RunsFile};
 ghost use Rattle.lx_top.specs.Table.{Step};
 
+use crate::files::files_of;
+use crate::listing::list;
 use crate::modules::is_module;
 use lx_command::commands::Command;
 use lx_command::fetching::{Stop, fetch, not_built, whole};
 use lx_command::judging::judge;
-use lx_command::texts::{Texts, files_of, summary_of};
+use lx_command::texts::{Texts, summary_of};
 use lx_description::Description;
 use lx_elab::elaborate;
 use lx_fsm::without_fsms;
 use lx_outside::Source;
 use lx_running::Runner;
+use lx_soc::{System, survey};
 use lx_text::{Kind, List, Refusal};
 use lx_translate::top_v;
 use std::alloc::Global;
 
 /// The texts of a command. One that isn't built yet touches no file.
-#[tactic(auto, using(crate::proofs::Endings::makes_map, crate::proofs::Endings::makes_poke, crate::proofs::Endings::makes_gen))]
+#[tactic(auto, using(crate::proofs::Endings::makes_poke, crate::proofs::Endings::makes_gen))]
 pub fn make<'a, S: Source>(
     alloc: Global,
     command: Command<'a>,
@@ -35,7 +39,7 @@ pub fn make<'a, S: Source>(
 {
     match command {
         Command::Build(source) => build(alloc, source, src),
-        Command::Map(_) => Err(not_built(b"map")),
+        Command::Map(source) => list(alloc, source, src),
         Command::Sim(source, trace) => simulate(alloc, source, trace, src),
         Command::Poke(_, _) => Err(not_built(b"poke")),
         Command::Gen(_) => Err(not_built(b"gen")),
@@ -71,18 +75,20 @@ fn describe(alloc: Global, bytes: &[u8]) -> Result<Texts, Refusal>
     ensures { Describes bytes.now result }
 {
     let flat = read_module(alloc, bytes)?;
-    texts_of(alloc, &flat)
+    texts_of(alloc, flat)
 }
 
 // The texts of a module; or the fault of its circuit.
 #[tactic(auto, using(crate::proofs::Endings::built_from, crate::proofs::Endings::not_translated))]
-fn texts_of(alloc: Global, flat: &Description) -> Result<Texts, Refusal>
-    requires { Keeps flat.now.design }
-    ensures { Builds flat.now result }
+fn texts_of(alloc: Global, flat: Description) -> Result<Texts, Refusal>
+    requires { Keeps flat.design }
+    ensures { Builds flat result }
 {
-    let text = top_v(alloc, &flat.design)?;
-    let files = files_of(alloc, text)?;
+    let written = top_v(alloc, &flat.design)?;
     let text = summary_of(alloc, flat.top.as_bytes())?;
+    let (design, top) = (flat.design, flat.top);
+    let system = System::plain(alloc, design, top);
+    let files = files_of(alloc, written, &system)?;
     Ok(Texts { files, text })
 }
 
@@ -96,12 +102,38 @@ fn read_module(alloc: Global, bytes: &[u8]) -> Result<Description, Refusal>
 {
     let tree = judge(alloc, bytes)?;
     let description = elaborate(alloc, bytes, &tree)?;
+    judged(alloc, description)
+}
+
+// The description as a module; a system is refused.
+#[tactic(auto, using(crate::proofs::Systems::system_refused, crate::proofs::Systems::module_judged))]
+fn judged(alloc: Global, description: Description) -> Result<Description, Refusal>
+    requires whole { KeepsDescription description }
+    requires can { CanFlatten description }
+    requires faultless { fsm_faults description ≡ [] }
+    ensures { Judges description result }
+{
+    if description.soc {
+        return Err(refuse_system(alloc, description));
+    }
     module_of(alloc, description)
+}
+
+// Why a system isn't built: the first fault of its registers or places, or that it isn't built yet.
+#[tactic(auto, using(crate::proofs::Systems::not_surveyed, crate::proofs::Systems::surveyed))]
+fn refuse_system(alloc: Global, description: Description) -> Refusal
+    requires { KeepsDescription description }
+    ensures { RefusesSystem description result }
+{
+    match survey(alloc, description) {
+        Ok(_) => Refusal::Fault(whole(Kind::NotYetBuilt)),
+        Err(refusal) => refusal,
+    }
 }
 
 // The description with the statements of its FSMs in their places; or that its parts are not built yet.
 #[tactic(auto, using(crate::proofs::Reading::no_module, crate::proofs::Reading::not_flat))]
-fn module_of(alloc: Global, description: Description) -> Result<Description, Refusal>
+pub(crate) fn module_of(alloc: Global, description: Description) -> Result<Description, Refusal>
     requires can { CanFlatten description }
     requires faultless { fsm_faults description ≡ [] }
     ensures { Modules description result }

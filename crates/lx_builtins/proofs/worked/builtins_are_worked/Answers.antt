@@ -17,7 +17,7 @@ use Rattle.lx_objects.specs.Modules.{attribute}
 use Rattle.lx_objects.specs.Signals.{keep_owner, new_signal, put_signal, signal_made, signal_value}
 use Rattle.lx_objects.specs.Fsms.{act_made, change_fsm, fsm_made, fsm_object, keep_fsm, keep_stand_in, new_ongoing, ongoing_made, state_fits}
 use Rattle.lx_objects.specs.Ios as ios
-use Rattle.lx_objects.specs.Memories.{address_bits_from, extent_of, keep_memory, keep_port, memory_made, mention_some, pin_made, port_made, port_with_pins, spend_words, write_pins_made}
+use Rattle.lx_objects.specs.Memories.{address_bits_from, extent_of, keep_memory, keep_port, memory_made, mention_some, pin_made, port_made, port_with_pins, spend_words, stores, write_pins_made}
 use Rattle.lx_objects.specs.Statements.{all_hanging, all_of, keep_assigning, keep_made, next_state_made, next_value_made, node_sum, only, statements_of}
 use Rattle.lx_ops.specs.Attributes.{attribute_of, module_attribute}
 use Rattle.lx_ops.specs.Exprs.{binary_made, constant, expr_of, exprs_of, least, unary_made}
@@ -33,6 +33,7 @@ use Rattle.lx_builtins.specs.Numbers.{bits_for_called, counts, exponent_below, i
 use Rattle.lx_builtins.specs.Objects.{getattr_called, holds_attributes, setattr_called, setattr_on}
 use Rattle.lx_builtins.specs.Sequences.{counted, enumerate_called, joint_pairs, len_called, list_called, numbered_pairs, pair_made, reversed_called, zip_called}
 use Rattle.lx_builtins.specs.Signals.{all_looked_at, integer_looked_at, name_looked_at, shape_looked_at, signal_called, signal_from, signal_of, sized, spanned}
+use Rattle.lx_builtins.specs.Systems.{asked_with, region_called}
 use Rattle.lx_builtins.proofs.worked.builtins_are_worked.Goals as goal
 
 pub returns-clause-clocked : goal.returns-clause-clocked
@@ -88,7 +89,7 @@ returns-clause-declared c = record {
 }
 
 pub returns-clause-expressed : goal.returns-clause-expressed
-unfolding python_value bounds_of is_wrong_count fold_at circuit_of term_at make_expr make_signal array_made int_of ints_of items_made items_of keep_items list_made list_of text_made text_of tuple_made deeper pairs_of object_made name_fits spend spend_nodes within expr_made put_expr attribute one_more keep_owner new_signal put_signal signal_made signal_value attribute_of module_attribute least constant expr_of exprs_of unary_made binary_made bound_to unnamed no_argument one two one_or_two three identifier_of builtin_called method_called stated_pair stated shaped_constant constant_called cat_called replicate_called mux_called operands_only array_of_list array_called steps_from counts range_called min_called max_called one_integer int_called str_called bits_for_called log2_int_called setattr_called setattr_on holds_attributes getattr_called counted len_called list_called reversed_called pair_made numbered_pairs enumerate_called joint_pairs zip_called sized shape_looked_at name_looked_at integer_looked_at all_looked_at spanned signal_of signal_from signal_called exponent_below
+unfolding python_value bounds_of is_wrong_count fold_at circuit_of term_at make_expr make_signal array_made int_of ints_of items_made items_of keep_items list_made list_of text_made text_of tuple_made deeper pairs_of object_made name_fits spend spend_nodes within expr_made put_expr attribute one_more keep_owner new_signal put_signal signal_made signal_value attribute_of module_attribute least constant expr_of exprs_of unary_made binary_made bound_to unnamed no_argument one two one_or_two three identifier_of builtin_called method_called stated_pair stated shaped_constant constant_called cat_called replicate_called mux_called operands_only array_of_list array_called steps_from counts range_called min_called max_called one_integer int_called str_called bits_for_called log2_int_called setattr_called setattr_on holds_attributes getattr_called counted len_called list_called reversed_called pair_made numbered_pairs enumerate_called joint_pairs zip_called sized shape_looked_at name_looked_at integer_looked_at all_looked_at spanned signal_of signal_from signal_called exponent_below asked_with region_called
 returns-clause-expressed c = record {
   fewest_bits = refl;
   stated = refl;
@@ -100,7 +101,7 @@ returns-clause-expressed c = record {
   array_of_nothing = refl;
   bad_name = refl;
   unbound = refl;
-  not_built = refl;
+  region_without_size = refl;
   mode = refl;
 }
 
@@ -125,7 +126,7 @@ returns-clause-staged c = record {
 }
 
 pub returns-clause-stored : goal.returns-clause-stored
-unfolding bounds_of is_wrong_count int_of ints_of list_of object_made one_more keep_memory memory_made spend_words bound_to builtin_called arguments_looked_at call_looked_at contents_looked_at contents_of depth_looked_at memory_called memory_from sized width_looked_at
+unfolding bounds_of is_wrong_count int_of ints_of list_of object_made one_more keep_memory memory_made spend_words stores bound_to builtin_called arguments_looked_at call_looked_at contents_looked_at contents_of depth_looked_at memory_called memory_from sized width_looked_at
 returns-clause-stored c = record {
   by_place = refl;
   by_name = refl;

@@ -8,12 +8,12 @@ use Rattle.lx_state.specs.Naming.{object_made, turn_object}
 use Rattle.lx_state.specs.Work.{one_more}
 use Rattle.lx_objects.specs.Domains.{clock_domain_made, declare, declare_bound, declare_named, mention, new_domain, note_domain}
 use Rattle.lx_objects.specs.Exprs.{put_expr}
-use Rattle.lx_objects.specs.Memories.{address_bits_from, extent_of, keep_memory, keep_port, memory_made, mention_some, pin_made, port_made, port_with_pins, spend_words, write_pins_made}
+use Rattle.lx_objects.specs.Memories.{address_bits_from, extent_of, keep_memory, keep_port, memory_made, mention_some, pin_made, port_made, port_with_pins, spend_words, stores, write_pins_made}
 use Rattle.lx_objects.specs.Signals.{keep_owner, new_signal, put_signal}
 use Rattle.lx_objects.proofs.worked.memories_are_worked.Goals as goal
 
 pub returns-clause-stored : goal.returns-clause-stored
-unfolding object_made one_more keep_memory memory_made spend_words
+unfolding object_made one_more keep_memory memory_made spend_words stores
 returns-clause-stored c = record {
   memory = refl;
   all_bits = refl;

@@ -6,7 +6,7 @@ use Rattle.lx_fhdl.specs.Stmts.{target_at}
 use Rattle.lx_fhdl.specs.Trees.{term_at}
 use Rattle.lx_shaped.specs.Making.{make_expr, make_signal, make_target}
 use Rattle.lx_state.specs.Lists.{deeper, list_of}
-use Rattle.lx_state.specs.Naming.{bind_name, bind_value, bind_within, name_object, object_made, turn_object}
+use Rattle.lx_state.specs.Naming.{bind_name, bind_value, bind_within, name_object, object_made, settle_object, turn_object}
 use Rattle.lx_state.specs.Work.{name_fits, one_more, spend_nodes, within}
 use Rattle.lx_objects.specs.Cases.{add_case, add_cases, case_key, case_made, keys_fit, pair_fits}
 use Rattle.lx_objects.specs.Crossings.{keep_crossing, lengthen, lengthen_by, multireg_made, pass_on, registers_within}
@@ -20,7 +20,7 @@ use Rattle.lx_objects.specs.Statements.{all_hanging, all_of, body_made, elif_mad
 use Rattle.lx_objects.proofs.worked.steps_are_worked.Goals as goal
 
 pub returns : goal.returns
-unfolding digits bind_name bind_value bind_within name_object act_made change_fsm fsm_made fsm_object keep_fsm keep_stand_in new_ongoing ongoing_made state_fits add_bound add_modules add_object add_objects bind_attribute set_attribute else_made keep_assigning next_state_made next_value_made turn_object keep_crossing lengthen lengthen_by multireg_made pass_on registers_within clock_domain_made declare declare_bound declare_named note_domain put_target make_target list_of add_case add_cases case_key case_made keys_fit pair_fits ios_of signal_of signals_of circuit_of fold_at term_at target_at make_expr make_signal deeper object_made put_expr keep_owner new_signal part_made put_signal signal_made signal_value body_made elif_made if_made keep_made name_fits spend_nodes within one_more add_comb add_some_in add_module add_sync change_module mention new_domain rise all_hanging all_of list_hanging node_sum only statements_of
+unfolding digits bind_name bind_value bind_within name_object settle_object act_made change_fsm fsm_made fsm_object keep_fsm keep_stand_in new_ongoing ongoing_made state_fits add_bound add_modules add_object add_objects bind_attribute set_attribute else_made keep_assigning next_state_made next_value_made turn_object keep_crossing lengthen lengthen_by multireg_made pass_on registers_within clock_domain_made declare declare_bound declare_named note_domain put_target make_target list_of add_case add_cases case_key case_made keys_fit pair_fits ios_of signal_of signals_of circuit_of fold_at term_at target_at make_expr make_signal deeper object_made put_expr keep_owner new_signal part_made put_signal signal_made signal_value body_made elif_made if_made keep_made name_fits spend_nodes within one_more add_comb add_some_in add_module add_sync change_module mention new_domain rise all_hanging all_of list_hanging node_sum only statements_of
 returns c = record {
   flattened = refl;
   counted = refl;

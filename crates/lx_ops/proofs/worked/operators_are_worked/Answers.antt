@@ -8,7 +8,7 @@ use Rattle.lx_shaped.specs.Making.{make_expr, make_target}
 use Rattle.lx_state.specs.Lists.{array_of, deeper, int_of, items_made, items_of, keep_items, list_made, list_of, text_made, text_of, tuple_made}
 use Rattle.lx_objects.specs.Exprs.{expr_made, put_expr, put_target}
 use Rattle.lx_objects.specs.Statements.{all_hanging, all_of, assign_made, keep_assigning, keep_made, list_hanging, next_value_made, node_sum, only}
-use Rattle.lx_state.specs.Naming.{bind_items, bind_list, bind_name, bind_value, bind_within, mark, name_object, turn_object}
+use Rattle.lx_state.specs.Naming.{bind_items, bind_list, bind_name, bind_value, bind_within, mark, name_object, settle_object, turn_object}
 use Rattle.lx_state.specs.Work.{name_fits, one_more, spend, spend_nodes, within}
 use Rattle.lx_objects.specs.Domains.{declare, declare_bound, declare_named, mention, new_domain, note_domain}
 use Rattle.lx_objects.specs.Ios.{ios_of, signal_of, signals_of}
@@ -95,7 +95,12 @@ returns-clause-attributes c = record {
   branch = refl;
   second_else = refl;
   own = refl;
-  not_built = refl;
+  bus = refl;
+  add_slave = refl;
+  add_bank = refl;
+  add_interrupt = refl;
+  no_slave = refl;
+  interface = refl;
   fragment_as_value = refl;
   fragment_in_place = refl;
   domain_is_bound = refl;
@@ -104,7 +109,7 @@ returns-clause-attributes c = record {
 }
 
 pub returns-clause-looked_at : goal.returns-clause-looked_at
-unfolding add_at bind_at only set_attribute add_bound bind_attribute declare declare_bound declare_named mention new_domain note_domain one_more turn_object change_module name_fits within bind_items bind_list bind_name bind_value bind_within mark name_object
+unfolding add_at bind_at only set_attribute add_bound bind_attribute declare declare_bound declare_named mention new_domain note_domain one_more turn_object change_module name_fits within bind_items bind_list bind_name bind_value bind_within mark name_object settle_object
 returns-clause-looked_at c = record {
   special_bound = refl;
   special_added = refl;
@@ -119,7 +124,7 @@ returns-clause-looked_at c = record {
 }
 
 pub returns-clause-ports : goal.returns-clause-ports
-unfolding bind_at list_of ios_of signals_of signal_of set_attribute add_bound bind_attribute declare_bound change_module name_fits within bind_items bind_list bind_name bind_value bind_within mark name_object
+unfolding bind_at list_of ios_of signals_of signal_of set_attribute add_bound bind_attribute declare_bound change_module name_fits within bind_items bind_list bind_name bind_value bind_within mark name_object settle_object
 returns-clause-ports c = record {
   signals = refl;
   an_integer = refl;
@@ -131,7 +136,7 @@ returns-clause-ports c = record {
 }
 
 pub returns-clause-states : goal.returns-clause-states
-unfolding add_at add_module add_modules add_object add_objects all_hanging all_of attribute attribute_of list_hanging module_attribute bind_at holder_of only rise bind_attribute declare_bound change_module name_fits within bind_items bind_list bind_name bind_value bind_within mark name_object
+unfolding add_at add_module add_modules add_object add_objects all_hanging all_of attribute attribute_of list_hanging module_attribute bind_at holder_of only rise bind_attribute declare_bound change_module name_fits within bind_items bind_list bind_name bind_value bind_within mark name_object settle_object
 returns-clause-states c = record {
   act = refl;
   ongoing = refl;
@@ -144,7 +149,7 @@ returns-clause-states c = record {
 }
 
 pub returns-clause-memories : goal.returns-clause-memories
-unfolding add_at add_modules all_hanging all_of attribute attribute_of list_hanging module_attribute bind_at only set_attribute add_bound bind_attribute declare_bound change_module name_fits within bind_items bind_list bind_name bind_value bind_within mark name_object
+unfolding add_at add_modules all_hanging all_of attribute attribute_of list_hanging module_attribute bind_at only set_attribute add_bound bind_attribute declare_bound change_module name_fits within bind_items bind_list bind_name bind_value bind_within mark name_object settle_object
 returns-clause-memories c = record {
   get_port = refl;
   no_width = refl;

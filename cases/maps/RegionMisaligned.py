@@ -1,0 +1,8 @@
+from migen import *
+from litex.soc.interconnect.csr import *
+from litex.soc.integration.soc_core import *
+
+class Top(SoCCore):
+    def __init__(self):
+        super().__init__()
+        self.add_ram("sram", 0x800, 4096)  # here
