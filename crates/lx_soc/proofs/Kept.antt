@@ -24,8 +24,8 @@ use Rattle.lx_csr.specs.Faults.{faults}
 use Rattle.lx_csr.specs.Mapped.{IsHoused, map_of, wishes_of}
 use Rattle.lx_csr.specs.declared.registers.Bank.{Bank}
 use Rattle.lx_csr.specs.declared.registers.Register.{Register}
-use Rattle.lx_soc.specs.Surveyed.{Surveys, wishes}
-use Rattle.lx_soc.specs.Told.{are_constants, are_numbered, are_regions, are_registers}
+use Rattle.lx_soc.specs.Surveyed.{Surveys, wishes, with_banks}
+use Rattle.lx_soc.specs.Told.{AreTold, are_constants, are_registers}
 use Rattle.lx_soc.proofs.Told.{all_constants_told, bank_words, map_told}
 use Rattle.lx_soc.proofs.Placing.{all_numbers_told, all_regions_told, are_sized, irq_words}
 
@@ -54,13 +54,10 @@ housing d false is h = inl (no_banks d is)
 pub sized : (d : Description) → KeepsDescription d → AreSized d.wishes.regions
 sized d keep = are_sized d.wishes.regions (regions_of d d.soc keep.top)
 
--- the wishes of a description with these banks and managers
-abbrev pub wished_of : Description → List BankWish → List (List ℕ) → Wishes
-wished_of d ws ms = record { regions = d.wishes.regions; banks = ws; fixes = d.wishes.fixes; managers = ms; irqs = d.wishes.irqs }
-
-pub same_wishes : (d : Description) (bs : List Bank) (ws : List BankWish) (ms : List (List ℕ)) → bs ≡ banks d → ws ≡ wishes_of bs → ms ≡ managers d →
-    wished_of d ws ms ≡ wishes d
-same_wishes d bs ws ms e f g = rw (f, e, g)
+-- the wishes of a description, whose banks and managers are these
+pub same_wishes : (d : Description) (w : Wishes) (bs : List Bank) (ws : List BankWish) (ms : List (List ℕ)) → w ≡ d.wishes → bs ≡ banks d → ws ≡ wishes_of bs → ms ≡ managers d →
+    with_banks w ws ms ≡ wishes d
+same_wishes d w bs ws ms own e f g = rw (own, f, e, g)
 
 -- ---- faults
 
@@ -77,21 +74,13 @@ place_fails d w refusal.NoMemory none same h = tt
 pub is_housed : (d : Description) (p : Placement) → KeepsDescription d → alloc.IsPlacement (wishes d) p → IsHoused (banks d) p
 is_housed d p keep placed = record { wishes = wishes d; banks = refl; region = housing d d.soc refl keep.top; placement = placed }
 
--- a placement of the wishes with these banks and managers is one of the description's
-pub placed_for : (d : Description) (bs : List Bank) (ws : List BankWish) (ms : List (List ℕ)) (p : Placement) → bs ≡ banks d → ws ≡ wishes_of bs → ms ≡ managers d →
-    alloc.IsPlacement (wished_of d ws ms) p → alloc.IsPlacement (wishes d) p
-placed_for d bs ws ms p e f g h = subst (λ w. alloc.IsPlacement w p) (same_wishes d bs ws ms e f g) h
-
--- What a system keeps, of these registers, this placement and these constants.
-pub record Keeps (rs : List Register) (p : Placement) (cs : List ConstDecl) : Type 0 where
-  pub registers : are_registers rs ≡ true
-  pub regions : are_regions p.regions ≡ true
-  pub banks : are_numbered p.banks ≡ true
-  pub interrupts : are_numbered p.irqs ≡ true
-  pub numbers : are_constants cs ≡ true
+-- a placement of these wishes is one of the description's
+pub placed_for : (d : Description) (w : Wishes) (bs : List Bank) (ws : List BankWish) (ms : List (List ℕ)) (p : Placement) → w ≡ d.wishes → bs ≡ banks d → ws ≡ wishes_of bs → ms ≡ managers d →
+    alloc.IsPlacement (with_banks w ws ms) p → alloc.IsPlacement (wishes d) p
+placed_for d w bs ws ms p own e f g h = subst (λ v. alloc.IsPlacement v p) (same_wishes d w bs ws ms own e f g) h
 
 pub system_keeps : (d : Description) (bs : List Bank) (rs : List Register) (p : Placement) (cs : List ConstDecl) → KeepsDescription d → alloc.IsPlacement (wishes d) p →
-    bs ≡ banks d → rs ≡ map_of bs p → cs ≡ constants d → Keeps rs p cs
+    bs ≡ banks d → rs ≡ map_of bs p → cs ≡ constants d → AreTold rs p cs
 system_keeps d bs rs p cs keep placed eb em ec =
     let names = map (λ (b : BankWish). b.name) (wishes_of (banks d)) in
     let numbers = map (λ (b : BankWish). number_of d.wishes.fixes b.name) (wishes_of (banks d)) in

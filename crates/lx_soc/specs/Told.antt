@@ -1,8 +1,9 @@
 -- What a system keeps of all that its files tell.
-use Rattle.std.specs.Prelude.{ℕ, Bool, List, ◌&&◌, nat_le, nat_lt}
+use Rattle.std.specs.Prelude.{◌≡◌, ℕ, Bool, true, List, ◌&&◌, nat_le, nat_lt}
 use Rattle.std.specs.List.{list_all}
 use Rattle.lx_fhdl.specs.Keeping.{is_later}
 use Rattle.lx_fhdl.specs.declared.places.Numbered.{Numbered}
+use Rattle.lx_fhdl.specs.declared.places.Placement.{Placement}
 use Rattle.lx_fhdl.specs.declared.places.Region.{Region}
 use Rattle.lx_description.specs.Keeping.{is_value}
 use Rattle.lx_description.specs.declared.modules.ConstDecl.{ConstDecl}
@@ -26,3 +27,11 @@ are_numbered xs = list_all (λ (x : Numbered). is_word x.name && nat_le x.number
 -- the values are such as a description's are
 abbrev pub are_constants : List ConstDecl → Bool
 are_constants cs = list_all (λ (c : ConstDecl). is_word c.name && is_value c.value) cs
+
+-- what a system keeps of these registers, this placement and these constants
+pub record AreTold (rs : List Register) (p : Placement) (cs : List ConstDecl) : Type 0 where
+  pub registers : are_registers rs ≡ true
+  pub regions : are_regions p.regions ≡ true
+  pub banks : are_numbered p.banks ≡ true
+  pub interrupts : are_numbered p.irqs ≡ true
+  pub numbers : are_constants cs ≡ true
