@@ -17,15 +17,16 @@ use Rattle.lx_command.specs.Fetching.{Fetched, IsNotBuilt, IsReport}
 use Rattle.lx_command.specs.Lines.{summary_text, no_memory_line, not_built}
 use Rattle.lx_command.specs.Next.{Next, Wants, Refuses, Gives, Then}
 use Rattle.lx_command.specs.World.{World, Has, LacksFile, IsLongFile, IsUntouched, Tells}
+use Rattle.lx_fhdl.specs.declared.design.Design.{Design}
 use Rattle.lx_description.specs.declared.description.Description.{Description}
 use Rattle.lx_translate.specs.Translation.{Translates}
 use Rattle.lx_soc.specs.Surveyed.{IsPlain}
 use Rattle.lx_soc.specs.declared.system.System.{System}
-use Rattle.lx_top.specs.Files.{build_files}
+use Rattle.lx_top.specs.Files.{build_files, module_files}
 use Rattle.lx_top.specs.Meaning.{Meaning, Built}
 use Rattle.lx_top.specs.Table.{Step}
 use Rattle.lx_top.specs.Outcome.{Comes, EndsBy}
-use Rattle.lx_top.specs.Making.{Builds, Describes, DescribesFile, IsModuleOf, Makes, Reads}
+use Rattle.lx_top.specs.Making.{Builds, Describes, DescribesFile, IsModuleOf, Makes, Reads, Writes}
 use Rattle.lx_top.proofs.Flat.{same_top}
 use Rattle.lx_top.proofs.Reading.{circuit_fault, means}
 
@@ -103,13 +104,20 @@ described bytes e (Ok t) m b = (m.described, means bytes e m b.faultless, (t.fil
 described bytes e (Err (refusal.Fault f)) m b = circuit_fault bytes e f m b
 described bytes e (Err refusal.NoMemory) m b = tt
 
-pub built_from : (e : Description) (made : List ℕ) (s : System) (t : Texts) → Translates e.design (Ok made) → IsPlain e.design e.top s → t.files ≡ build_files made s.map s.placement s.constants → t.text ≡ summary_text e.top
-    → Builds e (Ok t)
-built_from e made s t is plain same said = record { faultless = is.0; written = made; is = is.1; files = same ∙ rw (plain.map, plain.placement, plain.constants) refl; text = said }
+pub built_from : (e : Description) (w : List ℕ × List ℕ) (t : Texts) → Writes e (Ok w) → t.files ≡ module_files w.0 → t.text ≡ w.1 → Builds e (Ok t)
+built_from e w t is same said = record { faultless = is.0; written = w.0; is = is.1; files = same; text = said ∙ is.2 }
 
-pub not_translated : (e : Description) (r : Refusal) → Translates e.design (Err r) → Builds e (Err r)
+pub not_written : (e : Description) (r : Refusal) → Writes e (Err r) → Builds e (Err r)
+not_written e (refusal.Fault f) is = is
+not_written e refusal.NoMemory is = tt
+
+pub not_translated : (e : Description) (r : Refusal) → Translates e.design (Err r) → Writes e (Err r)
 not_translated e (refusal.Fault f) is = is
 not_translated e refusal.NoMemory is = tt
+
+-- the files of a circuit without a bus
+pub plain_files : (d : Design) (name : List ℕ) (s : System) (text : List ℕ) → IsPlain d name s → build_files text s.map s.placement s.constants ≡ module_files text
+plain_files d name s text plain = rw (plain.map, plain.placement, plain.constants) refl
 
 -- a command that isn't built
 unbuilt : (told : Option (List Pair)) (c : Asked) (word : List ℕ) (before now : ℕ) (s : Stop) → Step c [] (Refuses word not_built) → IsNotBuilt word s → Makes c told before now (Err s)

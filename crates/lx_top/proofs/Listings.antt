@@ -9,6 +9,7 @@ use Rattle.lx_outside.specs.Calls.{Rose}
 use Rattle.lx_pytree.specs.declared.tree.Tree.{Tree}
 use Rattle.lx_pytree.specs.Reading.{tree_of}
 use Rattle.lx_syntax.specs.Classes.{classes}
+use Rattle.lx_fhdl.specs.declared.design.Design.{Design}
 use Rattle.lx_description.specs.declared.description.Description.{Description}
 use Rattle.lx_describe.specs.Answers.{Answers}
 use Rattle.lx_elab.specs.Elaboration.{elaborated}
@@ -26,7 +27,7 @@ use Rattle.lx_command.specs.Judging.{IsTreeOfText, Judges}
 use Rattle.lx_command.specs.Next.{Next, Wants, Refuses, Gives, Then}
 use Rattle.lx_command.specs.World.{Has, LacksFile, IsLongFile}
 use Rattle.lx_top.specs.Meaning.{Listed, Listing}
-use Rattle.lx_top.specs.Making.{Lists, ListsBytes, ListsFile, Makes, Modules}
+use Rattle.lx_top.specs.Making.{Lists, ListsBytes, ListsCircuit, ListsFile, ListsPlaces, Makes, Modules}
 use Rattle.lx_top.specs.Modules.{is_module}
 use Rattle.lx_top.specs.Outcome.{Comes}
 use Rattle.lx_top.specs.Table.{Step}
@@ -34,23 +35,30 @@ use Rattle.lx_top.proofs.Reading.{says_of}
 
 -- ---- systems, and modules
 
-pub system_listed : (d : Description) (s : System) (text : List ℕ) → IsPlaced d s → text ≡ listing_text s.map s.placement → Lists true d (Ok text)
-system_listed d s text placed is = ((s, placed), (s, placed, is))
+pub system_listed : (d : Description) (s : System) (r : Result (List ℕ) Refusal) → IsPlaced d s → ListsPlaces s r → Lists true d r
+system_listed d s (Ok text) placed is = ((s, placed), (s, placed, is))
+system_listed d s (Err (refusal.Fault f)) placed is = absurd is
+system_listed d s (Err refusal.NoMemory) placed is = tt
 
 pub system_unlisted : (d : Description) (r : Refusal) → Surveys d (Err r) → Lists true d (Err r)
 system_unlisted d (refusal.Fault f) h = h
 system_unlisted d refusal.NoMemory h = tt
 
-pub module_listed : (d e : Description) (names : List (List ℕ)) (text : List ℕ) → IsWithout d e → is_module e ≡ true → AreNamesOf e.design names → text ≡ [] → Lists false d (Ok text)
-module_listed d e names text flat fit named is = ((e, flat, fit, named.faultless), is)
+pub module_listed : (d e : Description) (r : Result (List ℕ) Refusal) → IsWithout d e → is_module e ≡ true → ListsCircuit e.design r → Lists false d r
+module_listed d e (Ok text) flat fit is = ((e, flat, fit, is.0), is.1)
+module_listed d e (Err (refusal.Fault f)) flat fit is = (e, flat, inr (fit, is))
+module_listed d e (Err refusal.NoMemory) flat fit is = tt
 
 pub module_unlisted : (d : Description) (r : Refusal) → Modules d (Err r) → Lists false d (Err r)
 module_unlisted d (refusal.Fault f) h = h
 module_unlisted d refusal.NoMemory h = tt
 
-pub circuit_unlisted : (d e : Description) (r : Refusal) → IsWithout d e → is_module e ≡ true → IsNaming e.design (Err r) → Lists false d (Err r)
-circuit_unlisted d e (refusal.Fault f) flat fit h = (e, flat, inr (fit, h))
-circuit_unlisted d e refusal.NoMemory flat fit h = tt
+pub circuit_listed : (d : Design) (names : List (List ℕ)) (text : List ℕ) → AreNamesOf d names → text ≡ [] → ListsCircuit d (Ok text)
+circuit_listed d names text named is = (named.faultless, is)
+
+pub circuit_unlisted : (d : Design) (r : Refusal) → IsNaming d (Err r) → ListsCircuit d (Err r)
+circuit_unlisted d (refusal.Fault f) h = h
+circuit_unlisted d refusal.NoMemory h = tt
 
 -- by whether it is a system
 pub system_kind : (d : Description) (r : Result (List ℕ) Refusal) → d.soc ≡ true → Lists true d r → Lists d.soc d r

@@ -1,5 +1,5 @@
 -- What making the texts of a command answers.
-use Rattle.std.specs.Prelude.{◌≡◌, ℕ, ◌≤◌, Bool, true, List, Option, Result, Ok, Err, length, ◌⊎◌}
+use Rattle.std.specs.Prelude.{◌≡◌, ℕ, ◌≤◌, Bool, true, List, [], Option, Result, Ok, Err, length, ◌⊎◌}
 use Rattle.lx_outside.specs.declared.calls.Pair.{Pair}
 use Rattle.lx_outside.specs.Calls.{Rose}
 use Rattle.lx_text.specs.Limits.{max_bytes}
@@ -10,6 +10,8 @@ use Rattle.lx_fhdl.specs.declared.design.Design.{Design}
 use Rattle.lx_description.specs.declared.description.Description.{Description}
 use Rattle.lx_fsm.specs.Flattened.{IsWithout}
 use Rattle.lx_translate.specs.Translation.{HasFault, IsFaultless, IsTextOf}
+use Rattle.lx_export.specs.Listing.{listing_text}
+use Rattle.lx_soc.specs.declared.system.System.{System}
 use Rattle.lx_running.specs.Traced.{Traced}
 use Rattle.lx_command.specs.declared.fetching.Stop.{Stop}
 use Rattle.lx_command.specs.declared.fetching.Stop.TheVariants as stop
@@ -68,6 +70,12 @@ pub record AreTextsOf (e : Description) (t : Texts) : Type 0 where
   pub is : IsTextOf e.design written
   pub files : t.files ≡ module_files written
   pub text : t.text ≡ summary_text e.top
+
+-- What writing a module answers: its text, and what is said of it.
+abbrev pub Writes : Description → Result (List ℕ × List ℕ) Refusal → Type 0
+Writes e (Ok t) = IsFaultless e.design × IsTextOf e.design t.0 × (t.1 ≡ summary_text e.top)
+Writes e (Err (refusal.Fault f)) = HasFault e.design f
+Writes e (Err refusal.NoMemory) = Unit {0}
 
 -- What making the texts of a module answers.
 abbrev pub Builds : Description → Result Texts Refusal → Type 0
@@ -139,6 +147,18 @@ abbrev pub Lists : Bool → Description → Result (List ℕ) Refusal → Type 0
 Lists b d (Ok text) = IsListedAs b d × ListedAs b d text
 Lists b d (Err (refusal.Fault f)) = IsUnlistedAs b d f
 Lists b d (Err refusal.NoMemory) = Unit {0}
+
+-- What listing the places of a system answers.
+abbrev pub ListsPlaces : System → Result (List ℕ) Refusal → Type 0
+ListsPlaces s (Ok text) = text ≡ listing_text s.map s.placement
+ListsPlaces s (Err (refusal.Fault f)) = ⊥
+ListsPlaces s (Err refusal.NoMemory) = Unit {0}
+
+-- What listing a circuit answers: it has no parts with places.
+abbrev pub ListsCircuit : Design → Result (List ℕ) Refusal → Type 0
+ListsCircuit d (Ok text) = IsFaultless d × (text ≡ [])
+ListsCircuit d (Err (refusal.Fault f)) = HasFault d f
+ListsCircuit d (Err refusal.NoMemory) = Unit {0}
 
 -- What listing the bytes of a description answers.
 abbrev pub ListsBytes : List ℕ → Result (List ℕ) Refusal → Type 0

@@ -3,8 +3,9 @@
 ghost use Rattle.std.specs.Prelude.{◌≡◌, [], false, true};
 ghost use Rattle.lx_command.specs.Commands.{Map};
 ghost use Rattle.lx_description.specs.Keeping.{KeepsDescription};
+ghost use Rattle.lx_fhdl.specs.Keeping.{Keeps};
 ghost use Rattle.lx_fsm.specs.Flattened.{CanFlatten, fsm_faults};
-ghost use Rattle.lx_top.specs.Making.{Lists, ListsBytes, ListsFile, Makes};
+ghost use Rattle.lx_top.specs.Making.{Lists, ListsBytes, ListsCircuit, ListsFile, ListsPlaces, Makes};
 
 use crate::making::module_of;
 use lx_command::fetching::{Stop, fetch};
@@ -13,9 +14,10 @@ use lx_command::texts::Texts;
 use lx_description::Description;
 use lx_elab::elaborate;
 use lx_export::listing;
+use lx_fhdl::Design;
 use lx_outside::Source;
 use lx_running::named;
-use lx_soc::survey;
+use lx_soc::{System, survey};
 use lx_text::{List, Refusal, Text};
 use std::alloc::Global;
 
@@ -82,18 +84,33 @@ fn list_system(alloc: Global, description: Description) -> Result<Text, Refusal>
     ensures { Lists true description result }
 {
     let system = survey(alloc, description)?;
-    let text = listing(alloc, &system)?;
-    Ok(text)
+    list_places(alloc, &system)
+}
+
+// The parts of a system with their places.
+fn list_places(alloc: Global, system: &System) -> Result<Text, Refusal>
+    ensures { ListsPlaces system.now result }
+{
+    Ok(listing(alloc, system)?)
 }
 
 // The listing of a module, which has no parts with places.
-#[tactic(auto, using(crate::proofs::Listings::module_listed, crate::proofs::Listings::module_unlisted, crate::proofs::Listings::circuit_unlisted, crate::proofs::Flat::flat_keeps))]
+#[tactic(auto, using(crate::proofs::Listings::module_listed, crate::proofs::Listings::module_unlisted, crate::proofs::Flat::flat_keeps))]
 fn list_module(alloc: Global, description: Description) -> Result<Text, Refusal>
     requires can { CanFlatten description }
     requires faultless { fsm_faults description ≡ [] }
     ensures { Lists false description result }
 {
     let flat = module_of(alloc, description)?;
-    named(alloc, &flat.design)?;
+    list_circuit(alloc, &flat.design)
+}
+
+// Nothing is said of a circuit without a fault.
+#[tactic(auto, using(crate::proofs::Listings::circuit_listed, crate::proofs::Listings::circuit_unlisted))]
+fn list_circuit(alloc: Global, design: &Design) -> Result<Text, Refusal>
+    requires { Keeps design.now }
+    ensures { ListsCircuit design.now result }
+{
+    named(alloc, design)?;
     Ok(Text::new(alloc))
 }

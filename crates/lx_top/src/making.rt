@@ -7,10 +7,10 @@ ghost use Rattle.lx_description.specs.Keeping.{KeepsDescription};
 ghost use Rattle.lx_fsm.specs.Flattened.{CanFlatten, fsm_faults};
 ghost use Rattle.lx_command.specs.Commands.{Build, Sim, asked_of};
 ghost use Rattle.lx_command.specs.Next.{Refuses};
-ghost use Rattle.lx_top.specs.Making.{Builds, Describes, DescribesFile, Ends, EndsLater, Flattened, Judges, Makes, Modules, Reads, RefusesSystem, Runs, RunsBytes, RunsCircuit, RunsFile};
+ghost use Rattle.lx_top.specs.Making.{Builds, Describes, DescribesFile, Ends, EndsLater, Flattened, Judges, Makes, Modules, Reads, RefusesSystem, Runs, RunsBytes, RunsCircuit, RunsFile, Writes};
 ghost use Rattle.lx_top.specs.Table.{Step};
 
-use crate::files::files_of;
+use crate::files::files_of_module;
 use crate::listing::list;
 use crate::modules::is_module;
 use lx_command::commands::Command;
@@ -22,8 +22,8 @@ use lx_elab::elaborate;
 use lx_fsm::without_fsms;
 use lx_outside::Source;
 use lx_running::Runner;
-use lx_soc::{System, survey};
-use lx_text::{Kind, List, Refusal};
+use lx_soc::survey;
+use lx_text::{Kind, List, Refusal, Text};
 use lx_translate::top_v;
 use std::alloc::Global;
 
@@ -79,17 +79,25 @@ fn describe(alloc: Global, bytes: &[u8]) -> Result<Texts, Refusal>
 }
 
 // The texts of a module; or the fault of its circuit.
-#[tactic(auto, using(crate::proofs::Endings::built_from, crate::proofs::Endings::not_translated))]
+#[tactic(auto, using(crate::proofs::Endings::built_from, crate::proofs::Endings::not_written))]
 fn texts_of(alloc: Global, flat: Description) -> Result<Texts, Refusal>
     requires { Keeps flat.design }
     ensures { Builds flat result }
 {
+    let (written, text) = written_of(alloc, &flat)?;
+    let files = files_of_module(alloc, written, flat)?;
+    Ok(Texts { files, text })
+}
+
+// The text of a module, and what is said of it; or the fault of its circuit.
+#[tactic(auto, using(crate::proofs::Endings::not_translated))]
+fn written_of(alloc: Global, flat: &Description) -> Result<(Text, Text), Refusal>
+    requires { Keeps flat.now.design }
+    ensures { Writes flat.now result }
+{
     let written = top_v(alloc, &flat.design)?;
     let text = summary_of(alloc, flat.top.as_bytes())?;
-    let (design, top) = (flat.design, flat.top);
-    let system = System::plain(alloc, design, top);
-    let files = files_of(alloc, written, &system)?;
-    Ok(Texts { files, text })
+    Ok((written, text))
 }
 
 // ---- modules
