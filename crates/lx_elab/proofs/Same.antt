@@ -7,17 +7,23 @@ use Rattle.lx_text.specs.declared.faults.Refusal.{Refusal}
 use Rattle.lx_text.specs.declared.faults.Refusal.TheVariants as refusal
 use Rattle.lx_syntax.specs.Ast as ast
 use Rattle.lx_state.specs.Step.{IsFault}
+use Rattle.lx_state.specs.declared.machine.Machine.{Machine}
 use Rattle.lx_description.specs.declared.description.Description.{Description}
 use Rattle.lx_describe.specs.Answers.{Answers, IsRefusedBy}
+use Rattle.lx_describe.specs.Start.{start}
 use Rattle.lx_fhdl.specs.Keeping.{Keeps}
 use Rattle.lx_fhdl.specs.Kept.{is_kept}
 use Rattle.lx_fhdl.proofs.Kept.{is_kept-is}
-use Rattle.lx_elab.specs.Elaboration.{after, built, elaborated}
+use Rattle.lx_elab.specs.Elaboration.{after, built, described_under, elaborated, untested}
 use Rattle.lx_elab.specs.Fsms.{bodies_there}
 
 -- what answers for some classes answers for the same ones
 pub same_classes : (r : Result Description Refusal) (cs ds : List ast.Class) → cs ≡ ds → Answers r (elaborated cs) → Answers r (elaborated ds)
 same_classes r cs ds e answers = let P : List ast.Class → Type 0 = λ xs. Answers r (elaborated xs) in subst P e answers
+
+-- what is described under the machine in which nothing was made
+pub started : (r : Result Description Refusal) (cs : List ast.Class) (m : Machine) → m ≡ start → Answers r (described_under m cs) → Answers r (untested cs)
+started r cs m e answers = let P : Machine → Type 0 = λ n. Answers r (described_under n cs) in subst P e answers
 
 -- the fault before is that of what comes after
 pub after_stopped : (f : Description → Result Description Fault) (r : Refusal) (outcome : Result Description Fault) → IsRefusedBy r outcome → IsRefusedBy r (after f outcome)

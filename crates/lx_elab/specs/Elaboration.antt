@@ -6,6 +6,7 @@ use Rattle.lx_alloc.specs.Judged.{first}
 use Rattle.lx_fhdl.specs.Kept.{is_kept}
 use Rattle.lx_syntax.specs.Ast as ast
 use Rattle.lx_state.specs.Step.{◌>>=◌}
+use Rattle.lx_state.specs.declared.machine.Machine.{Machine}
 use Rattle.lx_description.specs.declared.description.Description.{Description}
 use Rattle.lx_describe.specs.Answers.{answer}
 use Rattle.lx_describe.specs.Describing.{described}
@@ -15,10 +16,14 @@ use Rattle.lx_parts_kept.specs.Parts.{parts_keep}
 use Rattle.lx_run.specs.Classes.{description_run}
 use Rattle.lx_elab.specs.Fsms.{bodies_there, fsm_faults, unless}
 
--- What a text with these classes describes, or its first fault: the top is made under a machine in which nothing was made,
--- and what the machine holds then is described.
+-- What classes describe when they are run under this machine, or the first fault: the top is made, and what the machine holds
+-- then is described.
+abbrev pub described_under : Machine → List ast.Class → Result Description Fault
+described_under m classes = answer ((description_run classes >>= described) m)
+
+-- What a text with these classes describes, or its first fault: nothing was made before.
 abbrev pub untested : List ast.Class → Result Description Fault
-untested classes = answer ((description_run classes >>= described) start)
+untested classes = described_under start classes
 
 -- ---- what is tested at the end
 

@@ -7,7 +7,7 @@ ghost use Rattle.lx_syntax.specs.Classes.{classes};
 ghost use Rattle.lx_syntax.specs.Forms.{classes_of};
 ghost use Rattle.lx_describe.specs.Answers.{Answers};
 ghost use Rattle.lx_description.specs.Keeping.{KeepsDescription};
-ghost use Rattle.lx_elab.specs.Elaboration.{after, checked, elaborated, kept, parted, stood, untested};
+ghost use Rattle.lx_elab.specs.Elaboration.{after, checked, described_under, elaborated, kept, parted, stood, untested};
 ghost use Rattle.lx_elab.specs.Fsms.{bodies_there};
 ghost use Rattle.lx_fhdl.specs.Keeping.{Keeps};
 ghost use Rattle.lx_fhdl.specs.Kept.{is_kept};
@@ -24,20 +24,34 @@ use lx_kept::is_kept;
 use lx_parts_kept::parts_keep;
 use lx_pytree::Tree;
 use lx_run::description_run;
+use lx_state::machine::Machine;
 use lx_state::work::fault;
 use lx_syntax::{Syntax, syntax_of};
 use lx_text::{Kind, NoMemory, Refusal};
 use std::alloc::Global;
 
-// What running the classes of a text describes, or its first fault.
+// What running the classes of a text under this machine describes, or its first fault.
 #[tactic(auto, using(lx_describe::proofs::Answering::answer_stopped, lx_describe::proofs::Answering::answer_next))]
+fn described_under(
+    machine: &mut Machine,
+    alloc: Global,
+    syntax: &Syntax,
+) -> Result<Description, Refusal>
+    ensures answers { Answers result (described_under machine.old (classes_of syntax.now)) }
+    ensures arenas { IfOk result (λ d. HasArenas d.design) }
+{
+    let top = description_run(machine, alloc, syntax)?;
+    described(machine, alloc, top)
+}
+
+// What running the classes of a text describes, or its first fault.
+#[tactic(auto, using(crate::proofs::Same::started))]
 fn untested(alloc: Global, syntax: &Syntax) -> Result<Description, Refusal>
     ensures answers { Answers result (untested (classes_of syntax.now)) }
     ensures arenas { IfOk result (λ d. HasArenas d.design) }
 {
     let mut machine = start(alloc);
-    let top = description_run(&mut machine, alloc, syntax)?;
-    described(&mut machine, alloc, top)
+    described_under(&mut machine, alloc, syntax)
 }
 
 // Whether the design of a description keeps what designs keep, and the statements of all states are there.
